@@ -1,0 +1,5 @@
+pub mod Cut
+pub mod Derived
+pub mod Parsed
+pub mod Depths
+pub mod Stable

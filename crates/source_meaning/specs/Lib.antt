@@ -1,0 +1,11 @@
+pub mod Lexemes
+pub mod Ast
+pub mod Grammar
+pub mod Scope
+pub mod Shape
+pub mod Typing
+pub mod Operators
+pub mod Frames
+pub mod Meaning
+pub mod Rows
+pub mod Worked
