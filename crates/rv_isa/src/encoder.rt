@@ -13,36 +13,10 @@ ghost use Rattle.rv_isa.specs.Encoding.{
 };
 
 use crate::instructions::Instr;
-
-/// The major opcodes, bits 6 to 0 of a word.
-const LUI: u32 = 0b0110111;
-
-const AUIPC: u32 = 0b0010111;
-
-const JAL: u32 = 0b1101111;
-
-const JALR: u32 = 0b1100111;
-
-const BRANCH: u32 = 0b1100011;
-
-const LOAD: u32 = 0b0000011;
-
-const STORE: u32 = 0b0100011;
-
-const OP_IMM: u32 = 0b0010011;
-
-const OP: u32 = 0b0110011;
-
-const MISC_MEM: u32 = 0b0001111;
-
-const SYSTEM: u32 = 0b1110011;
-
-/// The bits of `funct7` apart from those of the base rows: SUB, SRA and SRAI, and the rows of M.
-const BASE: u32 = 0b0000000;
-
-const ALTERNATE: u32 = 0b0100000;
-
-const MULDIV: u32 = 0b0000001;
+use crate::opcodes::{
+    ALTERNATE, AUIPC, BASE, BRANCH, EBREAK, ECALL, JAL, JALR, LOAD, LUI, MISC_MEM, MULDIV, OP,
+    OP_IMM, STORE,
+};
 
 /// funct7, rs2, rs1, funct3, rd, opcode, from the top.
 fn r_type(opcode: u32, funct3: u32, funct7: u32, rd: u8, rs1: u8, rs2: u8) -> u32
@@ -173,7 +147,7 @@ pub fn encode(instruction: Instr) -> u32
         Instr::Rem { rd, rs1, rs2 } => r_type(OP, 0b110, MULDIV, rd, rs1, rs2),
         Instr::Remu { rd, rs1, rs2 } => r_type(OP, 0b111, MULDIV, rd, rs1, rs2),
         Instr::Fence { rd, rs1, fields } => i_type(MISC_MEM, 0b000, rd, rs1, fields as u32),
-        Instr::Ecall => SYSTEM,
-        Instr::Ebreak => SYSTEM + (1 << 20),
+        Instr::Ecall => ECALL,
+        Instr::Ebreak => EBREAK,
     }
 }
