@@ -3,3 +3,4 @@ pub mod Derived
 pub mod Parsed
 pub mod Depths
 pub mod Stable
+pub mod OneTree

@@ -1,0 +1,7 @@
+use Rattle.std.proofs.Common.{refl}
+use Rattle.source_meaning.specs.Grammar.{grammar}
+use Rattle.verdict.proofs.OneVerdict.{same_verdict}
+use Rattle.verdict.proofs.laws.one_verdict.Goals as goal
+
+pub returns : goal.returns
+returns c = same_verdict (c.g1_is_ll1_and_llp.ensures grammar c.grammar_is_spelled.ensures refl).0
