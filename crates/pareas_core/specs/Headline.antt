@@ -1,0 +1,99 @@
+-- What the compiler and the program answer.
+use Rattle.std.specs.Prelude.{◌≡◌, ◌≢◌, ℕ, ◌+◌, ◌⊎◌, List, [], ◌++◌, length, take, drop, Option, Some, None}
+use Rattle.verdict.specs.Verdict.{Accepted, IsVerdict, image, most_source}
+use Rattle.simulation.specs.Behaves.{Behaves}
+use Rattle.source_meaning.specs.Ast.{Program}
+use Rattle.pareas_core.specs.declared.status.Status.{Status}
+use Rattle.pareas_core.specs.declared.status.Status.TheVariants as statuses
+use Rattle.pareas_core.specs.Causes.{Rose, Stayed}
+use Rattle.pareas_core.specs.declared.words.Command.{Command}
+use Rattle.pareas_core.specs.declared.words.Command.TheVariants.{Build}
+use Rattle.pareas_core.specs.Output.{Due, IsDue}
+
+-- ---- the compiler
+
+-- The source is a program, the file is its image, and on RV32IM the image does what the program does.
+pub record CompilesTo (source file : List ℕ) : Type 0 where
+  pub program : Program
+  pub accepted : IsVerdict source (Accepted program)
+  pub is_image : file ≡ image program
+  pub behaves : Behaves program file
+
+-- ---- the program
+
+-- the bytes that a command reads: those of the input, up to one past its limit
+abbrev pub read_by : Command → List ℕ → List ℕ
+read_by Build bytes = take (most_source + 1) bytes
+
+-- An end of the program before and after the call: its bytes, where it tells them, and its count of faults.
+-- An input tells the bytes that are left, an output those that were written.
+pub record End : Type 0 where
+  pub before : Option (List ℕ)
+  pub after : Option (List ℕ)
+  pub faults_before : ℕ
+  pub faults_after : ℕ
+
+abbrev pub HasFailed : End → Type 0
+HasFailed e = Rose e.faults_before e.faults_after
+
+abbrev pub HasWorked : End → Type 0
+HasWorked e = Stayed e.faults_before e.faults_after
+
+-- an output that tells its bytes got these
+abbrev pub Got : End → List ℕ → Type 0
+Got e bytes = (old : List ℕ) → e.before ≡ Some old → e.after ≡ Some (old ++ bytes)
+
+-- an output that tells its bytes got a prefix of these
+abbrev pub GotPrefix : End → List ℕ → Type 0
+GotPrefix e bytes = (old : List ℕ) → e.before ≡ Some old → (front rest : List ℕ) × (bytes ≡ front ++ rest) × (e.after ≡ Some (old ++ front))
+
+-- the status and all that was written are what is due
+pub record IsWritten (status : Status) (out notes : End) (d : Due) : Type 0 where
+  pub is_status : status ≡ d.status
+  pub is_out : Got out d.out
+  pub are_notes : Got notes d.notes
+
+-- What a command answers where no end failed and memory sufficed.
+pub record IsAnswer (c : Command) (bytes : List ℕ) (status : Status) (input out notes : End) : Type 0 where
+  -- it has read the input to its end, or to one byte past the limit
+  pub read : input.after ≡ Some (drop (length (read_by c bytes)) bytes)
+  -- it has written what is due, and nothing else is due
+  pub due : (d : Due) × IsDue c (read_by c bytes) d × IsWritten status out notes d
+  pub only : (d : Due) → IsDue c (read_by c bytes) d → IsWritten status out notes d
+  -- what was built is the image of the program that the source is, and behaves as that program on RV32IM
+  pub built : c ≡ Build → status ≡ statuses.Done → (file : List ℕ) × CompilesTo (read_by c bytes) file × Got out file
+
+-- The answer to words that name a command, and the status of words that name none. Each status has its cause.
+pub record MeetsWords (words : Option Command) (input out notes : End) (status : Status) : Type 0 where
+  -- the whole of it: the input tells its bytes, and no end failed
+  pub answer : (c : Command) (bytes : List ℕ) → words ≡ Some c → input.before ≡ Some bytes →
+      HasWorked input → HasWorked out → HasWorked notes → status ≢ statuses.NoMemory → IsAnswer c bytes status input out notes
+  -- words that are refused: nothing is read, and nothing goes to the output
+  pub usage : words ≡ None → (status ≡ statuses.Usage) ⊎ (status ≡ statuses.NoMemory) ⊎ (status ≡ statuses.WriteFault)
+  pub usage_only : status ≡ statuses.Usage → words ≡ None
+  pub unread : words ≡ None → (input.after ≡ input.before) × (input.faults_after ≡ input.faults_before)
+  pub no_output : words ≡ None → Got out []
+  -- a read that failed
+  pub read_fault : status ≡ statuses.ReadFault → HasFailed input × ((c : Command) × (words ≡ Some c))
+  pub read_fault_only : input.faults_after ≢ input.faults_before → (status ≡ statuses.ReadFault) ⊎ (status ≡ statuses.NoMemory)
+  -- a write that failed
+  pub write_fault : status ≡ statuses.WriteFault → HasFailed out ⊎ HasFailed notes
+  pub write_fault_only : ¬ ((out.faults_after ≡ out.faults_before) × (notes.faults_after ≡ notes.faults_before)) → status ≡ statuses.WriteFault
+  -- after it each output has a prefix of what is due
+  pub prefix : (c : Command) (bytes : List ℕ) (d : Due) → words ≡ Some c → input.before ≡ Some bytes → status ≡ statuses.WriteFault →
+      IsDue c (read_by c bytes) d → GotPrefix out d.out × GotPrefix notes d.notes
+  -- after a failed read, or out of memory, nothing was written
+  pub nothing : (status ≡ statuses.ReadFault) ⊎ (status ≡ statuses.NoMemory) → Got out [] × Got notes []
+
+-- ---- on the way
+
+-- what is due for the bytes that were read, and that nothing else is; what is built behaves
+pub record IsResponse (c : Command) (bytes : List ℕ) (d : Due) : Type 0 where
+  pub due : IsDue c bytes d
+  pub only : (e : Due) → IsDue c bytes e → e ≡ d
+  pub built : c ≡ Build → d.status ≡ statuses.Done → CompilesTo bytes d.out
+
+-- a response was written whole, or a write failed behind a prefix of it
+pub data IsDelivered (d : Due) (out notes : End) : Status → Type 0 where
+  whole : IsWritten d.status out notes d → out.faults_after ≡ out.faults_before → notes.faults_after ≡ notes.faults_before → IsDelivered d out notes d.status
+  broken_off : HasFailed out ⊎ HasFailed notes → GotPrefix out d.out → GotPrefix notes d.notes → IsDelivered d out notes statuses.WriteFault

@@ -1,0 +1,8 @@
+pub mod Causes
+pub mod CommandLine
+pub mod OneFunction
+pub mod Scanning
+pub mod Memory
+pub mod Reading
+pub mod Output
+pub mod Headline

@@ -1,0 +1,26 @@
+//! The compiler from source text to an executable file, and what its program reads and writes.
+#![tactic(auto)]
+
+mod compiler;
+mod ends;
+mod image;
+mod memory;
+mod one_function;
+mod program;
+mod reading;
+mod refusal;
+mod response;
+mod status;
+mod words;
+mod writing;
+
+pub use compiler::compile;
+pub use ends::{ByteIn, ByteOut, Failed};
+pub use memory::{MemoryIn, MemoryOut};
+pub use program::pareas;
+pub use refusal::Refusal;
+pub use status::Status;
+pub use words::Command;
+
+#[cfg(test)]
+mod tests;

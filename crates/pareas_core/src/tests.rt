@@ -1,0 +1,221 @@
+ghost use Rattle.std.specs.Prelude.{◌≤◌};
+
+use super::*;
+use chunk_seats::OpenGate;
+use std::alloc::{AllocError, Global};
+use std::process::Abort;
+use std::test::Fail;
+use std::thread::Threads;
+
+const SEVEN: &[u8] = b"fn main(): int { return 7; }";
+
+/// The file of `SEVEN`: header, program header and fifteen words.
+const SEVEN_FILE: [u8; 144] = [
+    0x7f, 0x45, 0x4c, 0x46, 0x01, 0x01, 0x01, 0x00, 0x00, 0x00, 0x00, 0x00, 0x00, 0x00, 0x00, 0x00, //
+    0x02, 0x00, 0xf3, 0x00, 0x01, 0x00, 0x00, 0x00, 0x54, 0x00, 0x01, 0x00, 0x34, 0x00, 0x00, 0x00, //
+    0x00, 0x00, 0x00, 0x00, 0x00, 0x00, 0x00, 0x00, 0x34, 0x00, 0x20, 0x00, 0x01, 0x00, 0x00, 0x00, //
+    0x00, 0x00, 0x00, 0x00, 0x01, 0x00, 0x00, 0x00, 0x54, 0x00, 0x00, 0x00, 0x54, 0x00, 0x01, 0x00, //
+    0x54, 0x00, 0x01, 0x00, 0x3c, 0x00, 0x00, 0x00, 0x3c, 0x00, 0x00, 0x00, 0x05, 0x00, 0x00, 0x00, //
+    0x00, 0x10, 0x00, 0x00, 0xef, 0x00, 0xc0, 0x00, 0x93, 0x08, 0xd0, 0x05, 0x73, 0x00, 0x00, 0x00, //
+    0x13, 0x01, 0x01, 0xff, 0x23, 0x20, 0x01, 0x00, 0x23, 0x26, 0x11, 0x00, 0x23, 0x24, 0x91, 0x00, //
+    0x93, 0x04, 0x70, 0x00, 0x13, 0x85, 0x04, 0x00, 0x6f, 0x00, 0x80, 0x00, 0x13, 0x05, 0x00, 0x00, //
+    0x83, 0x20, 0xc1, 0x00, 0x83, 0x24, 0x81, 0x00, 0x13, 0x01, 0x01, 0x01, 0x67, 0x80, 0x00, 0x00, //
+];
+
+/// How the ends behave: the bytes of one call, and the calls that fail.
+#[derive(Clone, Copy)]
+struct Ends<'a> {
+    read_step: usize,
+    failing_reads: &'a [u64],
+    write_step: usize,
+    failing_writes: &'a [u64],
+    ghost read_some: { 1 ≤ read_step },
+    ghost write_some: { 1 ≤ write_step },
+}
+
+const SOUND: Ends = Ends {
+    read_step: 4096,
+    failing_reads: &[],
+    write_step: 4096,
+    failing_writes: &[],
+};
+
+/// The program's words, each a copy.
+fn words_of(alloc: Global, words: &[&str]) -> Result<Vec<String>, AllocError> {
+    let mut all = Vec::new(alloc);
+    for word in words {
+        all.push(String::from_str(alloc, word)?)?;
+    }
+    Ok(all)
+}
+
+/// Runs the program over memory, and sees that it ends so and has written this.
+fn expect<R: Threads + Abort + Sync>(
+    rt: &R,
+    alloc: Global,
+    words: &[&str],
+    source: &[u8],
+    ends: &Ends,
+    (status, out, notes): (Status, &[u8], &[u8]),
+) -> Result<(), AllocError> {
+    let words = words_of(alloc, words)?;
+    let mut input = MemoryIn::new(
+        source.to_vec(alloc)?,
+        ends.read_step,
+        ends.failing_reads.to_vec(alloc)?,
+    );
+    let mut to_out = MemoryOut::new(alloc, ends.write_step, ends.failing_writes.to_vec(alloc)?);
+    let mut to_notes = MemoryOut::new(alloc, ends.write_step, ends.failing_writes.to_vec(alloc)?);
+    let ended = pareas(
+        rt,
+        alloc,
+        &words,
+        &mut input,
+        &mut to_out,
+        &mut to_notes,
+        &OpenGate,
+    );
+    assert_eq!(rt; ended, status);
+    assert_eq!(rt; to_out.written(), out);
+    assert_eq!(rt; to_notes.written(), notes);
+    Ok(())
+}
+
+const BUILD: [&str; 2] = ["pareas", "build"];
+
+#[test]
+fn builds_however_bytes_are_cut(rt: HostRuntime) -> Result<(), Fail> {
+    for step in [1, 7, 4096] {
+        let ends = Ends {
+            read_step: step,
+            write_step: step,
+            failing_reads: &[],
+            failing_writes: &[],
+        };
+        expect(
+            &rt,
+            rt.alloc(),
+            &BUILD,
+            SEVEN,
+            &ends,
+            (Status::Done, &SEVEN_FILE, b""),
+        )?;
+    }
+    Ok(())
+}
+
+#[test]
+fn builds_any_white_space_and_leading_zeros(rt: HostRuntime) -> Result<(), Fail> {
+    let done: (Status, &[u8], &[u8]) = (Status::Done, &SEVEN_FILE, b"");
+    expect(
+        &rt,
+        rt.alloc(),
+        &BUILD,
+        b"fn main(): int { return 0000000007; }",
+        &SOUND,
+        done,
+    )?;
+    expect(
+        &rt,
+        rt.alloc(),
+        &BUILD,
+        b"\tfn\r\nmain ( )\n:int{return\t7;}\r\n",
+        &SOUND,
+        done,
+    )?;
+    Ok(())
+}
+
+#[test]
+fn refuses_other_sources_and_words(rt: HostRuntime) -> Result<(), Fail> {
+    let not_yet: (Status, &[u8], &[u8]) = (Status::Refused, b"", b"not yet\n");
+    expect(&rt, rt.alloc(), &BUILD, b"", &SOUND, not_yet)?;
+    expect(
+        &rt,
+        rt.alloc(),
+        &BUILD,
+        b"fn main(): int { return 2048; }",
+        &SOUND,
+        not_yet,
+    )?;
+    expect(
+        &rt,
+        rt.alloc(),
+        &BUILD,
+        b"fn main(): int { return7; }",
+        &SOUND,
+        not_yet,
+    )?;
+    expect(
+        &rt,
+        rt.alloc(),
+        &BUILD,
+        b"fn main(): int { return 7; } // end",
+        &SOUND,
+        not_yet,
+    )?;
+    let spaces = vec![in rt.alloc(); b' '; 1_048_577]?;
+    expect(&rt, rt.alloc(), &BUILD, &spaces, &SOUND, not_yet)?;
+    let usage: (Status, &[u8], &[u8]) = (
+        Status::Usage,
+        b"",
+        b"usage: pareas build < SOURCE > IMAGE\n",
+    );
+    expect(&rt, rt.alloc(), &["pareas"], SEVEN, &SOUND, usage)?;
+    expect(
+        &rt,
+        rt.alloc(),
+        &["pareas", "build", "--chunk", "7"],
+        SEVEN,
+        &SOUND,
+        usage,
+    )?;
+    Ok(())
+}
+
+#[test]
+fn faults_of_the_ends(rt: HostRuntime) -> Result<(), Fail> {
+    let second_write = Ends {
+        read_step: 4096,
+        write_step: 100,
+        failing_reads: &[],
+        failing_writes: &[2],
+    };
+    expect(
+        &rt,
+        rt.alloc(),
+        &BUILD,
+        SEVEN,
+        &second_write,
+        (Status::WriteFault, &SEVEN_FILE[..100], b""),
+    )?;
+    let first_read = Ends {
+        read_step: 4096,
+        write_step: 4096,
+        failing_reads: &[1],
+        failing_writes: &[],
+    };
+    expect(
+        &rt,
+        rt.alloc(),
+        &BUILD,
+        SEVEN,
+        &first_read,
+        (Status::ReadFault, b"", b""),
+    )?;
+    let notes = Ends {
+        read_step: 4096,
+        write_step: 4096,
+        failing_reads: &[],
+        failing_writes: &[1],
+    };
+    expect(
+        &rt,
+        rt.alloc(),
+        &BUILD,
+        b"",
+        &notes,
+        (Status::WriteFault, b"", b""),
+    )?;
+    Ok(())
+}
