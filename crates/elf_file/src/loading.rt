@@ -1,6 +1,6 @@
 // Reading a file (System V ABI, "ELF Header", "Program Header" and "Program Loading").
 
-ghost use Rattle.std.specs.Prelude.{◌≡◌, ◌+◌, ◌*◌, ◌<◌, ◌≤◌, ◌^◌, ◌⊎◌, ◌-◌, ◌++◌, [], false, bit_and, nat_le, nat_lt, ◌&&◌, ◌==◌, OnOk, take, drop, replicate, Ok, Err, IfOk, length, MatchResult, MatchOption, Result, sum_by};
+ghost use Rattle.std.specs.Prelude.{◌≡◌, ◌+◌, ◌*◌, ◌%◌, ◌<◌, ◌≤◌, ◌^◌, ◌⊎◌, ◌-◌, ◌++◌, [], true, false, bit_and, nat_le, nat_lt, ◌&&◌, ◌==◌, OnOk, take, drop, replicate, Ok, Err, IfOk, length, MatchResult, MatchOption, Result, sum_by};
 ghost use Rattle.std.specs.List.{list_any};
 ghost use Rattle.elf_file.specs.Load.{
   load,
@@ -226,7 +226,8 @@ fn is_code(segments: &[Segment], address: u32) -> bool
 
 /// The run may begin at the address.
 fn may_begin(segments: &[Segment], entry: u32) -> bool
-    ensures { result ≡ begins segments.now entry }
+    ensures begins { result ≡ begins segments.now entry }
+    ensures aligned { result ≡ true → entry % 4 ≡ 0 }
 {
     entry % 4 == 0 && is_code(segments, entry)
 }
@@ -234,7 +235,8 @@ fn may_begin(segments: &[Segment], entry: u32) -> bool
 /// The segments that a file has the loader put into memory, and where the run begins, or the first
 /// fault of the file.
 pub fn read(alloc: Global, file: &[u8]) -> Result<Segments, ReadError>
-    ensures { Reads (load file.now) result }
+    ensures segments { Reads (load file.now) result }
+    ensures entry { IfOk result (λ segments. segments.entry % 4 ≡ 0) }
 {
     check_header(file)?;
     let entry = word_at(file, 24);
