@@ -1,13 +1,15 @@
 // The machine's memory: the regions of the segments, and the stack.
 
-ghost use Rattle.std.specs.Prelude.{◌≡◌, ℕ, ◌<◌, ◌^◌, ◌⊎◌, ◌&&◌, Some, None, [], ◌∷◌, ◌++◌, map, replicate, IfOk, true, false, length, get_or, MatchOption};
-ghost use Rattle.rv_isa.specs.Memory.{Region as MemoryRegion, has as holds, number_at as number_of_access, stored};
+ghost use Rattle.std.specs.Prelude.{◌≡◌, ℕ, ◌<◌, ◌^◌, ◌⊎◌, ◌&&◌, Some, None, [], ◌∷◌, ◌++◌, map, replicate, IfOk, true, false, length, get_or, MatchOption, option_map};
+ghost use Rattle.rv_isa.specs.Memory.{Region as MemoryRegion, has as holds, number_at as number_of_access, fetched, stored};
+ghost use Rattle.rv_isa.specs.Encoding.{decoded, InRange};
+ghost use Rattle.rv_isa.specs.declared.instructions.Instr.{Instr as Instruction};
 ghost use Rattle.rv32_emul.specs.Machine.{region_of, stack_of, empty_stack as zeros_of_stack};
 ghost use Rattle.rv32_emul.specs.Access.{allows as permits};
 
 use crate::region::{Access, Region};
 use elf_file::Segment;
-use rv_isa::Memory;
+use rv_isa::{Instr, Memory};
 use std::alloc::{AllocError, Global};
 use std::marker::Model;
 
@@ -38,6 +40,20 @@ fn number_at(regions: &[Region], access: Access, address: u32, size: u32) -> Opt
         Some(index) => {
             let region = &regions[index];
             Some(region.number(address, size))
+        }
+        None => None,
+    }
+}
+
+/// The instruction at an address, where a region may be run.
+fn instruction_at(regions: &[Region], address: u32) -> Option<Option<Instr>>
+    ensures decoded { result ≡ option_map decoded (fetched regions.now address) }
+    ensures in_range { (i : Instruction) → result ≡ Some (Some i) → InRange i }
+{
+    match find(regions, Access::Fetch, address, 4) {
+        Some(index) => {
+            let region = &regions[index];
+            Some(region.instruction(address))
         }
         None => None,
     }
@@ -95,9 +111,9 @@ impl Regions {
     {
         let mut regions = Vec::with_capacity(alloc, segments.len() + 1)?;
         for segment in segments {
-            regions.push(Region::of_segment(segment))?;
+            regions.push(Region::of_segment(alloc, segment)?)?;
         }
-        regions.push(Region::of_stack(empty_stack(alloc)?))?;
+        regions.push(Region::of_stack(alloc, empty_stack(alloc)?))?;
         Ok(Regions { regions })
     }
 }
@@ -107,6 +123,10 @@ impl Memory for Regions {
 
     fn fetch(&self, address: u32) -> Option<u32> {
         number_at(&self.regions, Access::Fetch, address, 4)
+    }
+
+    fn instruction(&self, address: u32) -> Option<Option<Instr>> {
+        instruction_at(&self.regions, address)
     }
 
     fn load(&self, address: u32, size: u32) -> Option<u32> {

@@ -1,12 +1,15 @@
 // A region of the machine's memory.
 
-ghost use Rattle.std.specs.Prelude.{◌≡◌, ◌+◌, ◌-◌, ◌*◌, ◌<◌, ◌≤◌, ◌^◌, ◌⊎◌, ◌&&◌, ◌==◌, true, length, take, drop, bit_and};
+ghost use Rattle.std.specs.Prelude.{◌≡◌, ◌+◌, ◌-◌, ◌*◌, ◌<◌, ◌≤◌, ◌^◌, ◌⊎◌, ◌&&◌, ◌==◌, true, length, take, drop, bit_and, IfOk};
 ghost use Rattle.rv_isa.specs.Memory.{has as holds, number_of, overwritten, bytes_of};
 ghost use Rattle.rv32_emul.specs.Machine.{region_of, stack_of};
+ghost use Rattle.rv32_emul.specs.Kept.{IsDecoded, AreDecoded};
 ghost use Rattle.rv32_emul.specs.Access.{allows as permits};
 
 use byteorder::{ByteOrder, LittleEndian};
 use elf_file::Segment;
+use rv_isa::{Instr, decode};
+use std::alloc::{AllocError, Global};
 use std::marker::Model;
 
 /// What an access does.
@@ -17,7 +20,8 @@ pub(crate) enum Access {
     Store,
 }
 
-/// Bytes that lie side by side from an address on, and what may be done with them.
+/// Bytes that lie side by side from an address on, and what may be done with them. The instructions of
+/// the first words are kept where the bytes can't change.
 #[derive(Drop)]
 pub(crate) struct Region {
     start: u32,
@@ -25,7 +29,11 @@ pub(crate) struct Region {
     readable: bool,
     writable: bool,
     executable: bool,
+    instructions: Vec<Option<Instr>>,
 }
+
+/// The most instructions that a region keeps.
+const KEPT: usize = 1 << 20;
 
 impl Model for Region {
     ghost use Rattle.rv_isa.specs.Memory.{Region as MemoryRegion};
@@ -33,26 +41,39 @@ impl Model for Region {
     ghost Value = { MemoryRegion };
 
     ghost view = { λ r. record { start = r.start; bytes = r.bytes.items; readable = r.readable; writable = r.writable; executable = r.executable } };
+
+    ghost use Rattle.rv32_emul.specs.Kept.{IsKept};
+
+    ghost invariant = { λ r. IsKept r.instructions.items r.bytes.items r.writable };
 }
 
 impl Region {
     /// A segment as a region.
-    pub(crate) fn of_segment(segment: Segment) -> Region
-        ensures { result ≡ region_of segment }
+    pub(crate) fn of_segment(alloc: Global, segment: Segment) -> Result<Region, AllocError>
+        ensures { IfOk result (λ r. r ≡ region_of segment) }
     {
         let start = segment.start();
         let flags = segment.flags();
-        Region {
+        let writable = flags & 2 == 2;
+        let executable = flags & 1 == 1;
+        let bytes = segment.into_bytes();
+        let instructions = if executable && !writable {
+            decoded_words(alloc, &bytes)?
+        } else {
+            Vec::new(alloc)
+        };
+        Ok(Region {
             start,
-            bytes: segment.into_bytes(),
+            bytes,
             readable: flags & 4 == 4,
-            writable: flags & 2 == 2,
-            executable: flags & 1 == 1,
-        }
+            writable,
+            executable,
+            instructions,
+        })
     }
 
     /// The stack.
-    pub(crate) fn of_stack(bytes: Vec<u8>) -> Region
+    pub(crate) fn of_stack(alloc: Global, bytes: Vec<u8>) -> Region
         ensures { result ≡ stack_of bytes.items }
     {
         Region {
@@ -61,6 +82,7 @@ impl Region {
             readable: true,
             writable: true,
             executable: false,
+            instructions: Vec::new(alloc),
         }
     }
 
@@ -99,14 +121,57 @@ impl Region {
         }
     }
 
+    /// The instruction of the word at an address.
+    pub(crate) fn instruction(&self, address: u32) -> Option<Instr>
+        requires { holds self.now address 4 ≡ true }
+        ensures { IsDecoded result self.now.bytes (address - self.now.start) }
+    {
+        let offset = (address - self.start) as usize;
+        kept_or_decoded(&self.instructions, &self.bytes, offset)
+    }
+
     /// Puts the low bytes of a value at an address, little endian.
     pub(crate) fn put(&mut self, address: u32, size: u32, value: u32)
         requires there { holds self.old address size ≡ true }
+        requires writable { self.old.writable ≡ true }
         requires size { (size ≡ 1) ⊎ (size ≡ 2) ⊎ (size ≡ 4) }
         ensures { self.new ≡ record self.old { bytes = overwritten self.old.bytes (address - self.old.start) (bytes_of size value) } }
     {
         let offset = (address - self.start) as usize;
         write_number(&mut self.bytes, offset, size, value);
+    }
+}
+
+/// The word at an offset.
+fn decoded_word(bytes: &[u8], offset: usize) -> Option<Instr>
+    requires { offset + 4 ≤ length bytes.now }
+    ensures { IsDecoded result bytes.now offset }
+{
+    decode(LittleEndian::read_u32(&bytes[offset..]))
+}
+
+/// The instructions of the first words of some bytes.
+fn decoded_words(alloc: Global, bytes: &[u8]) -> Result<Vec<Option<Instr>>, AllocError>
+    ensures { IfOk result (λ v. AreDecoded v.items bytes.now) }
+{
+    let count = (bytes.len() / 4).min(KEPT);
+    let mut instructions = Vec::with_capacity(alloc, count)?;
+    for k in 0..count {
+        instructions.push(decoded_word(bytes, 4 * k))?;
+    }
+    Ok(instructions)
+}
+
+/// The instruction at an offset, from those that are kept where it is among them.
+fn kept_or_decoded(instructions: &[Option<Instr>], bytes: &[u8], offset: usize) -> Option<Instr>
+    requires kept { AreDecoded instructions.now bytes.now }
+    requires inside { offset + 4 ≤ length bytes.now }
+    ensures { IsDecoded result bytes.now offset }
+{
+    if offset % 4 == 0 && offset / 4 < instructions.len() {
+        instructions[offset / 4]
+    } else {
+        decoded_word(bytes, offset)
     }
 }
 
