@@ -11,7 +11,7 @@ use crate::arithmetic::{
     is_less_signed, less, less_signed, on_top, remainder, remainder_signed, shift_left,
     shift_right, shift_right_signed,
 };
-use crate::decoder::{decode, sign_extended};
+use crate::decoder::sign_extended;
 use crate::hart::{FaultKind, Hart, Step};
 use crate::instructions::Instr;
 use crate::memory::Memory;
@@ -266,11 +266,9 @@ pub fn step<M: Memory>(hart: &mut Hart, memory: &mut M) -> Step
     ensures steps { Steps (state hart.old (M.regions memory.old)) result (state hart.new (M.regions memory.new)) }
     ensures aligned { hart.new.pc % 4 ≡ 0 }
 {
-    let Some(word) = memory.fetch(hart.pc) else {
-        return hart.fault(FaultKind::Fetch);
-    };
-    match decode(word) {
-        Some(instruction) => execute(instruction, hart, memory),
-        None => hart.fault(FaultKind::Unknown),
+    match memory.instruction(hart.pc) {
+        Some(Some(instruction)) => execute(instruction, hart, memory),
+        Some(None) => hart.fault(FaultKind::Unknown),
+        None => hart.fault(FaultKind::Fetch),
     }
 }
