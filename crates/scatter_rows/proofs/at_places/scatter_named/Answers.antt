@@ -8,7 +8,7 @@ returns g c =
     let ran = c.run-crew.ensures in
     let weighs : c.run-crew.result.mine.view.weight ≡ c.in_ok-claims.claims.seats = ran.weight ∙ sym c.in_ok-claims.ensures.1 in
     let chunks = c.in_ok-claims.ensures.0 in
-    let all = all_put (length c.args.places.now) c.args.plan.now.chunk c.in_ok-claims.claims.chunks c.close.result.0 c.run-crew.result.mine.view.claimed c.run-crew.result.seat.view.put
+    let all = all_put (length c.args.places.now) c.args.plan.now.chunk c.in_ok-claims.claims.chunks c.close.result.counter c.run-crew.result.mine.view.claimed c.run-crew.result.seat.view.put
     c.args.plan.now.chunk_in_range.0 (subst (λ (n : ℕ). IsCut (length c.args.places.now) c.args.plan.now.chunk n) (sym chunks) c.chunk_count-count.ensures.cut) ran.covers (c.close.ensures.spent ran.spent) (c.close.ensures.claimed weighs) in
     record {
       wide = c.close-2.auto.out;
