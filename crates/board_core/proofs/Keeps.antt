@@ -496,7 +496,7 @@ module _ {I : Type 0} (ops : Ops I) (sums : List I) (seats : ℕ) where
       let b = and_both (not (is_lawful ops sums c e) || is_orderly ops sums c e) (all_orderly ops sums (play ops sums c e) es) k in
       play_all_ordered es (play ops sums c e) (play_keeps c e r) (play_ordered c e r o b.0) b.1
 
-  start_ordered : IsOrdered (start ops sums seats)
+  pub start_ordered : IsOrdered (start ops sums seats)
   start_ordered = at_start (IsOrderly (start ops sums seats).statuses) (empty_ordered (start ops sums seats).statuses seats) (empty_ordered (start ops sums seats).statuses 0)
 
   pub all_ordered : (es : List Event) → 0 < seats → all_orderly ops sums (start ops sums seats) es ≡ true → IsOrdered (play_all ops sums (start ops sums seats) es)

@@ -12,7 +12,7 @@ use std::alloc::{AllocError, Global};
 use std::marker::Model;
 use word_monoid::WordMonoid;
 
-/// The claim board and the status board of a scan, and the seats on them, as one value.
+/// The claim board and the status board of a scan, and the seats on them, as one value. Whatever steps it takes, it stays sound.
 #[derive(Drop)]
 pub struct Core<M: WordMonoid> {
     monoid: M,
@@ -32,7 +32,7 @@ impl<M: WordMonoid> Model for Core<M> {
 }
 
 impl<M: WordMonoid + Drop> Core<M> {
-    /// The boards of as many chunks as there are sums, and one seat, number 0, which stands for that many.
+    /// The boards of as many chunks as there are sums, with nothing drawn or published, and seat 0, which stands for `seats`.
     pub fn new(
         alloc: Global,
         monoid: M,
@@ -41,7 +41,8 @@ impl<M: WordMonoid + Drop> Core<M> {
     ) -> Result<Core<M>, AllocError>
         requires sums { (length sums.now < 2 ^ 62) × All (IsItem (M.ops monoid)) sums.now }
         requires seats { 1 ≤ seats }
-        ensures { IfOk result (λ c. c ≡ record { monoid = monoid; sums = sums.now; seats = seats; state = start (M.ops monoid) sums.now seats }) }
+        ensures start { IfOk result (λ c. c ≡ record { monoid = monoid; sums = sums.now; seats = seats; state = start (M.ops monoid) sums.now seats }) }
+        ensures ordered { IfOk result (λ c. IsOrdered c.state) }
     {
         let state = State::new(alloc, sums, seats)?;
         let mut own = Vec::with_capacity(alloc, sums.len())?;
@@ -61,7 +62,7 @@ impl<M: WordMonoid + Drop> Core<M> {
         self.seats
     }
 
-    /// The boards are sound, whatever steps they took.
+    /// What every core keeps: the boards are sound, whatever steps were taken.
     pub fn know_sound(&self)
         ensures { IsKept (M.ops self.now.monoid) self.now.sums self.now.seats self.now.state }
     {
@@ -81,8 +82,10 @@ impl<M: WordMonoid + Drop> Core<M> {
         apply(&self.monoid, sums, &mut self.state, event)
     }
 
-    /// Takes steps in order. Where memory runs out, those before one of them were taken.
-    /// Whatever they are, the boards are sound, and where each lawful step was orderly, they are in order.
+    /// Takes steps in order. Where memory runs out, those before some step were taken.
+    ///
+    /// Whatever the steps are, the boards are sound then. Where a seat shows only chunks that it has claimed, each once, and says
+    /// done only of those that it has sealed, they are in order too.
     pub fn play_all(&mut self, events: &[Event]) -> Result<(), AllocError>
         ensures ok { OnOk result (self.new ≡ with_state self.old (play_all (M.ops self.old.monoid) self.old.sums self.old.state events.now)) }
         ensures err { OnErr result ((n : ℕ) × (n < length events.now) × (self.new ≡ with_state self.old (play_all (M.ops self.old.monoid) self.old.sums self.old.state (take n events.now)))) }

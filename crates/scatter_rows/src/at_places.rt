@@ -1,4 +1,4 @@
-//! The scatter.
+//! The scatter, a list that is written at places (Blelloch, "Prefix Sums and Their Applications", calls it permute).
 ghost use Rattle.std.specs.Prelude.{◌≡◌, ℕ, List, ◌-◌, ◌<◌, ◌^◌, length, IfOk, All, replicate};
 ghost use Rattle.std.specs.Result.{OnOk};
 ghost use Rattle.scatter_rows.specs.Scattered.{AreDistinct, IsScattered};
@@ -12,8 +12,8 @@ use std::alloc::{AllocError, Global};
 use std::marker::Brand;
 use std::thread::Threads;
 
-/// There is one such list at most.
-pub fn determines()
+/// What `scatter` promises holds of one list at most.
+pub fn scatter_is_unique()
     ensures { (places values : List ℕ) (len : ℕ) (xs ys : List ℕ) → IsScattered places values len xs → IsScattered places values len ys → xs ≡ ys }
 {}
 
@@ -26,8 +26,8 @@ fn chunk_count(len: usize, chunk: u32) -> u64
     len.div_ceil(chunk as usize) as u64
 }
 
-// The cells, in place of as many zeros.
-fn scatter_named<N: Pairs + Send + Sync, G: Gate, R: Threads + Sync>(
+// Puts the values into as many cells as there are zeros, and reads the cells out in their place.
+fn scatter_into<N: Pairs + Send + Sync, G: Gate, R: Threads + Sync>(
     rt: &R,
     alloc: Global,
     plan: &Plan,
@@ -57,7 +57,11 @@ fn scatter_named<N: Pairs + Send + Sync, G: Gate, R: Threads + Sync>(
     Ok(())
 }
 
-/// The list of that length in which each place holds its value, and every other cell 0. The same for every plan.
+/// The list of `len` cells in which each place holds its value, and every other cell 0. It is the same for every plan.
+///
+/// Workers claim chunks of the pairs of a place and a value, and put the values into the words of one shared table, where a word
+/// is 0 before its value and the value plus 1 after it. There are at most as many workers as chunks, and one starts no thread.
+/// `gate` is told of each claim by the worker's number, which is below that of the workers, and once of its end.
 pub fn scatter<G: Gate, R: Threads + Sync>(
     rt: &R,
     alloc: Global,
@@ -74,7 +78,7 @@ pub fn scatter<G: Gate, R: Threads + Sync>(
     ensures { IfOk result (λ v. IsScattered places.now values.now len v.items) }
 {
     let mut cells = Vec::from_elem(alloc, 0u64, len.max(1) as usize)?;
-    scatter_named::<Brand, G, R>(rt, alloc, plan, gate, places, values, cells.as_mut_slice())?;
+    scatter_into::<Brand, G, R>(rt, alloc, plan, gate, places, values, cells.as_mut_slice())?;
     cells.truncate(len as usize);
     Ok(cells)
 }

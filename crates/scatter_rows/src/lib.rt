@@ -7,7 +7,7 @@ mod crew;
 mod views;
 mod work;
 
-pub use at_places::{determines, scatter};
+pub use at_places::{scatter, scatter_is_unique};
 
 #[cfg(test)]
 mod tests;

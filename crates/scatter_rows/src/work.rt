@@ -26,7 +26,7 @@ impl<N: Pairs> Cells<N> {
         }
     }
 
-    /// Claims chunks until none is left.
+    /// Claims chunks until none is left, and tells the gate of each claim.
     pub(crate) fn work<G: Gate>(
         &self,
         seat: &mut Seat,

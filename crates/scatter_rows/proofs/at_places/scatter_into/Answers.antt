@@ -1,7 +1,7 @@
 use Rattle.std.proofs.Common.{◌≡◌, ℕ, ◌<◌, List, length, ◌∙◌, sym, subst}
 use Rattle.scatter_rows.specs.Worked.{IsCut}
 use Rattle.scatter_rows.proofs.Covering.{all_put}
-use Rattle.scatter_rows.proofs.at_places.scatter_named.Goals as goal
+use Rattle.scatter_rows.proofs.at_places.scatter_into.Goals as goal
 
 pub returns : goal.returns
 returns g c =
