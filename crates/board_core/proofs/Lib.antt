@@ -1,0 +1,5 @@
+pub mod Lists
+pub mod Keeps
+pub mod Standing
+pub mod Bounds
+pub mod Playing

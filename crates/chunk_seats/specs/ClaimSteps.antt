@@ -1,0 +1,21 @@
+-- What a step on a claim board tells the seat that takes it.
+use Rattle.std.specs.Prelude.{◌≡◌, ℕ, ◌<◌, ◌≤◌, length}
+use Rattle.atomic_table.specs.Table.{Me, Step}
+use Rattle.chunk_seats.specs.declared.views.ClaimView.{ClaimView}
+use Rattle.chunk_seats.specs.Tallies.{times}
+use Rattle.chunk_seats.specs.Claims.{claiming, spending, finishing}
+
+-- a seat, by its view and the slots that it holds, of which there are none
+abbrev pub Hand : Type 0
+Hand = Me (Unit {0}) ClaimView
+
+-- a draw from a board of k chunks: a chunk that no seat had claimed, or a number behind the last one
+abbrev pub Draws : ℕ → Step (Unit {0}) → Hand → ℕ → Hand → Type 0
+Draws k st m r m' =
+    (m'.1 ≡ m.1)
+    × (r < k → (m'.0 ≡ claiming m.0 r) × (times r m.0.claimed ≡ 0) × (length m.0.claimed < k))
+    × (k ≤ r → m'.0 ≡ spending m.0)
+
+-- the count of the chunk c as done
+abbrev pub Finishes : ℕ → Step (Unit {0}) → Hand → ℕ → Hand → Type 0
+Finishes c st m r m' = (m'.1 ≡ m.1) × (m'.0 ≡ finishing m.0 c)

@@ -1,0 +1,5 @@
+pub mod Scattered
+pub mod Rule
+pub mod Held
+pub mod Worked
+pub mod Crews

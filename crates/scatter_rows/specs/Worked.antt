@@ -1,0 +1,24 @@
+-- What workers need, and what they leave.
+use Rattle.std.specs.Prelude.{◌≡◌, ℕ, ◌+◌, ◌-◌, ◌*◌, ◌^◌, ◌<◌, ◌≤◌, List, length, slice_index}
+use Rattle.chunk_seats.specs.Tallies.{times}
+use Rattle.scatter_rows.specs.Scattered.{IsFree}
+
+-- each place is below `words`, and has a value that can be counted up
+pub record AreFit (words : ℕ) (places values : List ℕ) : Type 0 where
+  pub as_many : length values ≡ length places
+  pub inside : (i : ℕ) → i < length places → slice_index places i < words
+  pub small : (i : ℕ) → i < length places → slice_index values i < 2 ^ 64 - 1
+
+-- so many items are cut into so many chunks of that size, of which the last may be shorter
+pub record IsCut (count size chunks : ℕ) : Type 0 where
+  pub inside : (c : ℕ) → c < chunks → c * size < count
+  pub all : count ≤ chunks * size
+
+-- the pairs of the claimed chunks have been put
+abbrev pub Covers : ℕ → ℕ → List ℕ → List ℕ → Type 0
+Covers count size claimed put = (c i : ℕ) → 0 < times c claimed → c * size ≤ i → i < c * size + size → i < count → 0 < times i put
+
+-- what is read out: the value at the place of each pair that was put, and 0 at each cell that is no place
+pub record IsReadOut (places values put cells : List ℕ) : Type 0 where
+  pub placed : (i : ℕ) → 0 < times i put → slice_index cells (slice_index places i) ≡ slice_index values i
+  pub free : (c : ℕ) → IsFree places c → slice_index cells c ≡ 0

@@ -1,0 +1,84 @@
+//! The scatter, a list that is written at places (Blelloch, "Prefix Sums and Their Applications", calls it permute).
+ghost use Rattle.std.specs.Prelude.{◌≡◌, ℕ, List, ◌-◌, ◌<◌, ◌^◌, length, IfOk, All, replicate};
+ghost use Rattle.std.specs.Result.{OnOk};
+ghost use Rattle.scatter_rows.specs.Scattered.{AreDistinct, IsScattered};
+ghost use Rattle.scatter_rows.specs.Worked.{AreFit, IsCut};
+
+use crate::cells::Cells;
+use crate::crew::{Crew, run};
+use crate::views::Pairs;
+use chunk_seats::{ClaimBoard, Gate, Plan};
+use std::alloc::{AllocError, Global};
+use std::marker::Brand;
+use std::thread::Threads;
+
+/// What `scatter` promises holds of one list at most.
+pub fn scatter_is_unique()
+    ensures { (places values : List ℕ) (len : ℕ) (xs ys : List ℕ) → IsScattered places values len xs → IsScattered places values len ys → xs ≡ ys }
+{}
+
+// How many chunks there are.
+fn chunk_count(len: usize, chunk: u32) -> u64
+    requires { (len < 2 ^ 62) × (0 < chunk) }
+    ensures cut { IsCut len chunk result }
+    ensures small { result < 2 ^ 62 }
+{
+    len.div_ceil(chunk as usize) as u64
+}
+
+// Puts the values into as many cells as there are zeros, and reads the cells out in their place.
+fn scatter_into<N: Pairs + Send + Sync, G: Gate, R: Threads + Sync>(
+    rt: &R,
+    alloc: Global,
+    plan: &Plan,
+    gate: &G,
+    places: &[u64],
+    values: &[u64],
+    cells: &mut [u64],
+) -> Result<(), AllocError>
+    requires len { length places.now < 2 ^ 62 }
+    requires pairs { (places.now ≡ N.places) × (values.now ≡ N.values) }
+    requires blank { (cells.old ≡ replicate (length cells.old) 0) × (0 < length cells.old) }
+    requires fit { AreFit (length cells.old) N.places N.values }
+    requires distinct { AreDistinct N.places }
+    ensures { OnOk result (IsScattered N.places N.values (length cells.old) cells.new) }
+{
+    let count = chunk_count(places.len(), plan.chunk);
+    let workers = u64::from(plan.workers).min(count.max(1)) as u32;
+    let (claims, mine) = ClaimBoard::new(alloc, count, workers)?;
+    let (board, seat) = Cells::<N>::new(alloc, cells, workers)?;
+    let crew = Crew { seat, mine };
+    let crew = run(
+        rt, &board, &claims, crew, plan, gate, 0, workers, places, values,
+    );
+    let Crew { seat, mine } = crew;
+    claims.close(mine);
+    board.close(seat, cells);
+    Ok(())
+}
+
+/// The list of `len` cells in which each place holds its value, and every other cell 0. It is the same for every plan.
+///
+/// Workers claim chunks of the pairs of a place and a value, and put the values into the words of one shared table, where a word
+/// is 0 before its value and the value plus 1 after it. There are at most as many workers as chunks, and one starts no thread.
+/// `gate` is told of each claim by the worker's number, which is below that of the workers, and once of its end.
+pub fn scatter<G: Gate, R: Threads + Sync>(
+    rt: &R,
+    alloc: Global,
+    plan: &Plan,
+    gate: &G,
+    places: &[u64],
+    values: &[u64],
+    len: u64,
+) -> Result<Vec<u64>, AllocError>
+    requires lists { (length values.now ≡ length places.now) × (length places.now < 2 ^ 62) }
+    requires inside { All (λ p. p < len) places.now }
+    requires distinct { AreDistinct places.now }
+    requires small { All (λ v. v < 2 ^ 64 - 1) values.now }
+    ensures { IfOk result (λ v. IsScattered places.now values.now len v.items) }
+{
+    let mut cells = Vec::from_elem(alloc, 0u64, len.max(1) as usize)?;
+    scatter_into::<Brand, G, R>(rt, alloc, plan, gate, places, values, cells.as_mut_slice())?;
+    cells.truncate(len as usize);
+    Ok(cells)
+}

@@ -1,0 +1,119 @@
+//! The workers of a scatter.
+ghost use Rattle.std.specs.Prelude.{◌≡◌, ◌+◌, ◌<◌, ◌≤◌, length};
+ghost use Rattle.std.specs.Thread.{IsSync};
+ghost use Rattle.chunk_seats.specs.Claims.{fresh};
+ghost use Rattle.scatter_rows.specs.Rule.{idle};
+ghost use Rattle.scatter_rows.specs.Worked.{AreFit, IsCut};
+ghost use Rattle.scatter_rows.specs.Crews.{IsDone};
+
+use crate::cells::{Cells, Seat};
+use crate::views::Pairs;
+use chunk_seats::{ClaimBoard, Gate, Plan};
+use std::thread::{Threads, join};
+
+/// The two seats of one or more workers.
+#[derive(Drop)]
+pub(crate) struct Crew {
+    pub seat: Seat,
+    pub mine: chunk_seats::Seat,
+}
+
+// Two crews are one.
+fn merge<N: Pairs>(
+    cells: &Cells<N>,
+    claims: &ClaimBoard,
+    count: usize,
+    size: u32,
+    rest: u32,
+    half: u32,
+    one: Crew,
+    two: Crew,
+) -> Crew
+    requires words { 0 < cells.now.board.words }
+    requires one { IsDone count size cells.now.board claims.now.board rest one }
+    requires two { IsDone count size cells.now.board claims.now.board half two }
+    ensures { IsDone count size cells.now.board claims.now.board (rest + half) result }
+{
+    let _ = (count, size, rest, half);
+    let Crew { mut seat, mut mine } = one;
+    let Crew {
+        seat: other,
+        mine: theirs,
+    } = two;
+    cells.join(&mut seat, other);
+    claims.join(&mut mine, theirs);
+    Crew { seat, mine }
+}
+
+/// That many workers, each in a thread of its own where threads can be made.
+pub(crate) fn run<N: Pairs + Send + Sync, G: Gate, R: Threads + Sync>(
+    rt: &R,
+    cells: &Cells<N>,
+    claims: &ClaimBoard,
+    mut crew: Crew,
+    plan: &Plan,
+    gate: &G,
+    first: u32,
+    workers: u32,
+    places: &[u64],
+    values: &[u64],
+) -> Crew
+    requires words { 0 < cells.now.board.words }
+    requires boards { (crew.seat.board ≡ cells.now.board) × (crew.mine.board ≡ claims.now.board) }
+    requires new { (crew.seat.view ≡ idle workers) × (crew.mine.view ≡ fresh workers) }
+    requires workers { (1 ≤ workers) × (first + workers ≤ 64) }
+    requires pairs { (places.now ≡ N.places) × (values.now ≡ N.values) }
+    requires fit { AreFit cells.now.board.words N.places N.values }
+    requires cut { IsCut (length places.now) plan.now.chunk claims.now.chunks }
+    ensures { IsDone (length places.now) plan.now.chunk cells.now.board claims.now.board workers result }
+{
+    if workers == 1 {
+        cells.work(
+            &mut crew.seat,
+            claims,
+            &mut crew.mine,
+            plan,
+            gate,
+            first,
+            places,
+            values,
+        );
+        return crew;
+    }
+    let half = workers / 2;
+    let rest = workers - half;
+    let after = first + rest;
+    let other = Crew {
+        seat: cells.split(&mut crew.seat, half),
+        mine: claims.split(&mut crew.mine, half),
+    };
+    let (one, two) = join(
+        rt,
+        move || -> Crew
+            requires { IsSync R.row × (0 < cells.now.board.words) × (crew.seat.board ≡ cells.now.board) × (crew.mine.board ≡ claims.now.board) × (crew.seat.view ≡ idle rest) × (crew.mine.view ≡ fresh rest) × (1 ≤ rest) × (first + rest ≤ 64) × (places.now ≡ N.places) × (values.now ≡ N.values) × AreFit cells.now.board.words N.places N.values × IsCut (length places.now) plan.now.chunk claims.now.chunks }
+            ensures { IsDone (length places.entry.now) plan.entry.now.chunk cells.entry.now.board claims.entry.now.board rest result }
+        {
+            run(
+                rt, cells, claims, crew, plan, gate, first, rest, places, values,
+            )
+        },
+        move || -> Crew
+            requires { IsSync R.row × (0 < cells.now.board.words) × (other.seat.board ≡ cells.now.board) × (other.mine.board ≡ claims.now.board) × (other.seat.view ≡ idle half) × (other.mine.view ≡ fresh half) × (1 ≤ half) × (after + half ≤ 64) × (places.now ≡ N.places) × (values.now ≡ N.values) × AreFit cells.now.board.words N.places N.values × IsCut (length places.now) plan.now.chunk claims.now.chunks }
+            ensures { IsDone (length places.entry.now) plan.entry.now.chunk cells.entry.now.board claims.entry.now.board half result }
+        {
+            run(
+                rt, cells, claims, other, plan, gate, after, half, places, values,
+            )
+        },
+    );
+    merge(
+        cells,
+        claims,
+        places.len(),
+        plan.chunk,
+        rest,
+        half,
+        one,
+        two,
+    )
+}

@@ -1,0 +1,13 @@
+//! Values that several workers write at places of one shared table of words.
+#![tactic(auto)]
+
+mod at_places;
+mod cells;
+mod crew;
+mod views;
+mod work;
+
+pub use at_places::{scatter, scatter_is_unique};
+
+#[cfg(test)]
+mod tests;

@@ -1,0 +1,4 @@
+pub mod Monoid
+pub mod Folds
+pub mod Instances
+pub mod Lawful
