@@ -42,7 +42,7 @@ fn add_name(
 {
     let bytes = name.as_bytes();
     if !contains(skipped, bytes) && !contains(known.as_slice(), bytes) {
-        known.push(Name::from_slice(alloc, bytes)?)?;
+        known.push(name.try_clone(alloc)?)?;
     }
     Ok(())
 }

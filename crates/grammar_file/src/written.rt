@@ -1,10 +1,11 @@
 // The productions of a file as they are written.
 
-ghost use Rattle.std.specs.Prelude.{◌≡◌, ◌≤◌, ◌⊎◌, map, length, codes, Ok, ◌&&◌, nat_le, ◌<◌, IfOk, IfErr, MatchOption};
+ghost use Rattle.std.specs.Prelude.{◌≡◌, ◌≤◌, ◌⊎◌, map, length, codes, true, Ok, ◌<◌, IfOk, IfErr, MatchOption};
 ghost use Rattle.std.specs.List.{list_all};
 ghost use Rattle.std.specs.Str.Lines.{lines};
 ghost use Rattle.grammar_file.specs.declared.file.GrammarFault.TheVariants.{BadLine, NoMemory};
-ghost use Rattle.grammar_file.specs.Spelling.{Blank, Rule, Bad, is_symbol, line_of, line_of_words, written, IsFaultOf};
+ghost use Rattle.grammar_file.specs.Words.{is_printable, is_symbol};
+ghost use Rattle.grammar_file.specs.Spelling.{Blank, Rule, Bad, line_of, line_of_words, written, IsFaultOf};
 
 use crate::file::GrammarFault;
 use crate::lines::{split_line, words_of_line};
@@ -44,7 +45,7 @@ fn is_symbol(word: &[u8]) -> bool
 }
 
 fn is_printable(word: &[u8]) -> bool
-    ensures { result ≡ list_all (λ b. nat_le 0x21 b && nat_le b 0x7E) word.now }
+    ensures { result ≡ is_printable word.now }
 {
     word.iter().all(|b| 0x21 <= *b && *b <= 0x7E)
 }
@@ -56,6 +57,7 @@ fn are_symbols(words: &[&[u8]]) -> bool
 }
 
 fn names_of(alloc: Global, words: &[&[u8]]) -> Result<Vec<Name>, AllocError>
+    requires { list_all is_symbol (map (λ w. w.now) words.now) ≡ true }
     ensures { IfOk result (λ v. v.items ≡ map (λ w. w.now) words.now) }
 {
     let mut names = Vec::new(alloc);
