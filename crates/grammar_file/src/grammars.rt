@@ -1,7 +1,7 @@
 // Grammars and their productions.
 
-ghost use Rattle.std.specs.Prelude.{◌≡◌, ◌⊎◌, ◌+◌, ◌<◌, ◌≤◌, length, slice_get, Result, Ok, Err, Some, IfOk, IfErr};
-ghost use Rattle.grammar_file.specs.Grammar.{Grammar as AnyGrammar, IsSymbol, IsWellFormed};
+ghost use Rattle.std.specs.Prelude.{◌≡◌, ◌⊎◌, ◌+◌, ◌<◌, ◌≤◌, length, slice_get, Result, Ok, Err, Some, None, IfOk, IfErr, MatchOption};
+ghost use Rattle.grammar_file.specs.Grammar.{Grammar as AnyGrammar, IsWellFormed, production, end_mark, name_of};
 ghost use Rattle.grammar_file.specs.Spelling.{read, IsFaultOf, IsReduced, IsWellWritten, IsWithinLimits, Spells};
 ghost use Rattle.grammar_file.specs.declared.file.GrammarFault.{GrammarFault as AnyFault};
 ghost use Rattle.grammar_file.specs.declared.file.GrammarFault.TheVariants.{NoMemory};
@@ -9,7 +9,7 @@ ghost use Rattle.grammar_file.specs.declared.file.GrammarFault.TheVariants.{NoMe
 use crate::file::GrammarFault;
 use crate::numbered::sized;
 use crate::reduced::{unproductive, unreachable};
-use crate::symbols::{Name, Symbol};
+use crate::symbols::{BEGIN, END, Name, Symbol};
 use crate::written::written_productions;
 use std::alloc::Global;
 use std::marker::Model;
@@ -166,5 +166,90 @@ impl Grammar {
             return Err(GrammarFault::Unreachable(name));
         }
         Ok(Grammar { written })
+    }
+    /// The names of the terminals, from terminal 1 on.
+    pub fn terminals(&self) -> &[Name]
+        ensures names { result.now ≡ self.now.terminals }
+        ensures limits { IsWithinLimits self.now }
+    {
+        self.written.terminals()
+    }
+
+    /// The names of the nonterminals, from nonterminal 0 on, which is the start.
+    pub fn nonterminals(&self) -> &[Name]
+        ensures names { result.now ≡ self.now.nonterminals }
+        ensures limits { IsWithinLimits self.now }
+        ensures has_start { 0 < length self.now.nonterminals }
+    {
+        self.written.nonterminals()
+    }
+
+    /// The productions, from production 1 on.
+    pub fn productions(&self) -> &[Production]
+        ensures rules { result.now ≡ self.now.productions }
+        ensures limits { IsWithinLimits self.now }
+        ensures well_formed { IsWellFormed self.now }
+        ensures reduced { IsReduced self.now }
+    {
+        self.written.productions()
+    }
+
+    /// The production with this number.
+    pub fn production(&self, number: u16) -> Option<&Production>
+        ensures { MatchOption result (production self.now number ≡ None) (λ p. production self.now number ≡ Some p.now) }
+    {
+        if number == 0 {
+            return None;
+        }
+        self.productions().get(number as usize - 1)
+    }
+
+    /// How many terminals there are.
+    pub fn terminal_count(&self) -> u16
+        ensures { result ≡ length self.now.terminals }
+    {
+        self.terminals().len() as u16
+    }
+
+    /// How many nonterminals there are.
+    pub fn nonterminal_count(&self) -> u16
+        ensures { result ≡ length self.now.nonterminals }
+    {
+        self.nonterminals().len() as u16
+    }
+
+    /// How many productions there are.
+    pub fn production_count(&self) -> u16
+        ensures { result ≡ length self.now.productions }
+    {
+        self.productions().len() as u16
+    }
+
+    /// The mark behind a text, which is the terminal behind the last one.
+    pub fn end_mark(&self) -> Symbol
+        ensures { result ≡ Symbol.Terminal (end_mark self.now) }
+    {
+        Symbol::Terminal(self.terminals().len() as u16 + 1)
+    }
+
+    /// The name of a symbol, or `BEGIN` or `END` for a mark.
+    pub fn name_of(&self, symbol: Symbol) -> Option<&[u8]>
+        ensures { MatchOption result (name_of self.now symbol ≡ None) (λ name. name_of self.now symbol ≡ Some name.now) }
+    {
+        match symbol {
+            Symbol::Terminal(0) => Some(BEGIN),
+            Symbol::Terminal(a) if a as usize == self.terminals().len() + 1 => Some(END),
+            Symbol::Terminal(a) => name_at(self.terminals(), a as usize - 1),
+            Symbol::Nonterminal(a) => name_at(self.nonterminals(), a as usize),
+        }
+    }
+}
+
+fn name_at(names: &[Name], place: usize) -> Option<&[u8]>
+    ensures { MatchOption result (slice_get names.now place ≡ None) (λ name. slice_get names.now place ≡ Some name.now) }
+{
+    match names.get(place) {
+        Some(name) => Some(name.as_bytes()),
+        None => None,
     }
 }

@@ -9,17 +9,12 @@ ghost use Rattle.grammar_file.specs.Spelling.{Blank, Rule, Bad, line_of, line_of
 
 use crate::file::GrammarFault;
 use crate::lines::{split_line, words_of_line};
-use crate::symbols::Name;
+use crate::symbols::{BEGIN, END, Name};
 use std::alloc::{AllocError, Global};
 use std::marker::Model;
 
 /// What stands between the two sides of a production.
 const ARROW: &[u8] = b"->";
-
-/// The names of the two marks, which no grammar uses.
-const BEGIN: &[u8] = b"BEGIN";
-
-const END: &[u8] = b"END";
 
 /// A production as it is written.
 #[derive(Drop)]
