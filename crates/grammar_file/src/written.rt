@@ -62,7 +62,7 @@ fn names_of(alloc: Global, words: &[&[u8]]) -> Result<Vec<Name>, AllocError>
     Ok(names)
 }
 
-/// The production of a line's words, or `None` where they are none.
+/// The production of a line's words.
 fn production_of_words(
     alloc: Global,
     number: u32,
