@@ -1,5 +1,8 @@
 pub mod Cut
 pub mod Derived
+pub mod Bound
+pub mod Called
+pub mod Named
 pub mod Parsed
 pub mod Depths
 pub mod Stable

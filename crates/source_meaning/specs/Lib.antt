@@ -1,11 +1,15 @@
 pub mod Lexemes
 pub mod Ast
+pub mod Trees
 pub mod Grammar
 pub mod Scope
 pub mod Shape
 pub mod Typing
 pub mod Operators
 pub mod Frames
+pub mod Counts
+pub mod Running
+pub mod Weights
 pub mod Meaning
 pub mod Rows
 pub mod Worked
