@@ -7,11 +7,10 @@ ghost use Rattle.scan_lookback.specs.Posting.{Status};
 ghost use Rattle.scan_lookback.specs.LookSteps.{FoundNothing};
 ghost use Rattle.scan_lookback.specs.Named.{Names};
 ghost use Rattle.scan_lookback.specs.Held.{held};
-ghost use Rattle.scan_lookback.specs.Found.{Found, IsSum, IsPrefix};
+ghost use Rattle.scan_lookback.specs.Found.{IsSum, IsPrefix};
 
-use crate::look::Look;
 use crate::views::{Chunks, Codes, LookView};
-use crate::words::{prefix_code, read, sum_code};
+use crate::words::{prefix_code, sum_code};
 use atomic_table::{Join, Play, Split, Table, TableRule};
 use chunk_seats::Told;
 use std::alloc::{AllocError, Global};
@@ -202,7 +201,8 @@ impl<'a, M: WordMonoid, N: Chunks<M::Item>> ScanBoard<'a, M, N> {
         self.seal_word(seat, c, code);
     }
 
-    fn load_word(&self, seat: &mut Seat, j: u64) -> u64
+    // Loads the word of a chunk, and notes it.
+    pub(crate) fn load_word(&self, seat: &mut Seat, j: u64) -> u64
         requires board { seat.old.board ≡ self.now.board }
         requires chunk { j < self.now.chunks }
         ensures noted { seat.new ≡ held seat.old.board (looking seat.old.view j result) }
@@ -212,17 +212,6 @@ impl<'a, M: WordMonoid, N: Chunks<M::Item>> ScanBoard<'a, M, N> {
         self.table
             .shared
             .load::<Find<N>>(&mut seat.token, j as usize)
-    }
-
-    /// Loads the word of a chunk, once, and notes it. `Nothing` comes exactly where the word is 0, which it never is for a chunk
-    /// that the seat has shown, or of which it has loaded something before.
-    pub fn look(&self, seat: &mut Seat, j: u64) -> Look<M::Item>
-        requires board { seat.old.board ≡ self.now.board }
-        requires chunk { j < self.now.chunks }
-        ensures { (word : ℕ) × (seat.new ≡ held seat.old.board (looking seat.old.view j word)) × Found (M.ops self.now.monoid) N.sums j word result × (word ≡ 0 → FoundNothing seat.old.view j) }
-    {
-        let word = self.load_word(seat, j);
-        read::<M, N>(self.monoid(), j, word)
     }
 
     fn leave<C: Told>(&self, seat: &mut Seat, n: u32) -> Seat

@@ -1,11 +1,9 @@
 //! Status words: 0 while nothing is published of a chunk, then four times the code of its sum plus 1, or four times the code of its
 //! prefix plus 2.
 ghost use Rattle.std.specs.Prelude.{◌≡◌, ◌<◌, ◌^◌, length, slice_index};
-ghost use Rattle.scan_lookback.specs.Posting.{Status};
 ghost use Rattle.scan_lookback.specs.Named.{Names};
-ghost use Rattle.scan_lookback.specs.Found.{Found, IsSum, IsPrefix};
+ghost use Rattle.scan_lookback.specs.Found.{IsSum, IsPrefix};
 
-use crate::look::{Look, Unseen};
 use crate::views::Chunks;
 use word_monoid::WordMonoid;
 
@@ -34,22 +32,4 @@ pub(crate) fn prefix_code<M: WordMonoid, N: Chunks<M::Item>>(
 {
     let _ = c;
     monoid.word(prefix)
-}
-
-// What the word of a chunk says.
-pub(crate) fn read<M: WordMonoid, N: Chunks<M::Item>>(
-    monoid: &M,
-    j: u64,
-    word: u64,
-) -> Look<M::Item>
-    requires names { Names (M.ops monoid.now) N.sums N.sum_codes N.prefix_codes }
-    requires chunk { j < length N.sums }
-    requires status { Status N.sum_codes N.prefix_codes j word }
-    ensures { Found (M.ops monoid.now) N.sums j word result }
-{
-    match word % 4 {
-        0 => Look::Nothing(Unseen { chunk: j }),
-        1 => Look::Sum(monoid.of_word(word / 4)),
-        _ => Look::Prefix(monoid.of_word(word / 4)),
-    }
 }

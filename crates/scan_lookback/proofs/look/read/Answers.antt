@@ -1,6 +1,6 @@
 use Rattle.std.proofs.Common.{◌≡◌, ◌+◌, ◌*◌, get_or, arith}
 use Rattle.scan_lookback.proofs.Coded.{says_sum, reads_sum, says_prefix, reads_prefix}
-use Rattle.scan_lookback.proofs.words.read.Goals as goal
+use Rattle.scan_lookback.proofs.look.read.Goals as goal
 
 pub of_word-requires : goal.of_word-requires
 of_word-requires g c =
