@@ -68,20 +68,22 @@ fn cut(rt: HostRuntime) -> Result<(), Fail> {
     Ok(())
 }
 
+/// Where a byte is changed, to what, and the fault.
+const BYTES: [(usize, u8, ElfFault); 8] = [
+    (0, 0x7E, ElfFault::Magic),
+    (3, 0x47, ElfFault::Magic),
+    (4, 2, ElfFault::Class),
+    (5, 2, ElfFault::Class),
+    (6, 0, ElfFault::Class),
+    (16, 3, ElfFault::Kind),
+    (42, 33, ElfFault::Kind),
+    (18, 0, ElfFault::Machine),
+];
+
 /// A byte changed, and the fault.
 #[test]
 fn bytes(rt: HostRuntime) {
-    let rows = [
-        (0usize, 0x7E, ElfFault::Magic),
-        (3, 0x47, ElfFault::Magic),
-        (4, 2, ElfFault::Class),
-        (5, 2, ElfFault::Class),
-        (6, 0, ElfFault::Class),
-        (16, 3, ElfFault::Kind),
-        (42, 33, ElfFault::Kind),
-        (18, 0, ElfFault::Machine),
-    ];
-    for (offset, byte, fault) in rows {
+    for (offset, byte, fault) in BYTES {
         let mut file = FILE;
         assert!(rt; offset < 144);
         file[offset] = byte;
@@ -93,27 +95,29 @@ fn bytes(rt: HostRuntime) {
     }
 }
 
+/// Where four bytes are changed, to what, and the fault.
+const NUMBERS: [(usize, u32, ElfFault); 15] = [
+    (44, 65535, ElfFault::Segment(2)),
+    (44, 0, ElfFault::Entry),
+    (72, 0, ElfFault::Entry),
+    (76, 4, ElfFault::Entry),
+    (24, 0x10056, ElfFault::Entry),
+    (24, 0x10090, ElfFault::Entry),
+    (52, 2, ElfFault::Entry),
+    (28, 0xFFFFFFFF, ElfFault::Segment(0)),
+    (68, 0xFFFFFFFF, ElfFault::Segment(0)),
+    (68, 61, ElfFault::Segment(0)),
+    (72, 59, ElfFault::Segment(0)),
+    (60, 0xFFFFFFF0, ElfFault::Segment(0)),
+    (60, 0x700FFFF0, ElfFault::Segment(0)),
+    (60, 0x6FFFFFC5, ElfFault::Segment(0)),
+    (72, 0x04000001, ElfFault::Segment(0)),
+];
+
 /// Four bytes changed, and the fault. `e_phnum` has two bytes, and behind it stands 0.
 #[test]
 fn numbers(rt: HostRuntime) {
-    let rows = [
-        (44usize, 65535, ElfFault::Segment(2)),
-        (44, 0, ElfFault::Entry),
-        (72, 0, ElfFault::Entry),
-        (76, 4, ElfFault::Entry),
-        (24, 0x10056, ElfFault::Entry),
-        (24, 0x10090, ElfFault::Entry),
-        (52, 2, ElfFault::Entry),
-        (28, 0xFFFFFFFF, ElfFault::Segment(0)),
-        (68, 0xFFFFFFFF, ElfFault::Segment(0)),
-        (68, 61, ElfFault::Segment(0)),
-        (72, 59, ElfFault::Segment(0)),
-        (60, 0xFFFFFFF0, ElfFault::Segment(0)),
-        (60, 0x700FFFF0, ElfFault::Segment(0)),
-        (60, 0x6FFFFFC5, ElfFault::Segment(0)),
-        (72, 0x04000001, ElfFault::Segment(0)),
-    ];
-    for (offset, number, fault) in rows {
+    for (offset, number, fault) in NUMBERS {
         let mut file = FILE;
         assert!(rt; offset <= 140);
         LittleEndian::write_u32(&mut file[offset..offset + 4], number);
