@@ -3,37 +3,12 @@
 ghost use Rattle.std.specs.Prelude.{◌≡◌, ◌≤◌, ◌++◌, length, flat_map, IfOk, OnOk};
 ghost use Rattle.elf_file.specs.Image.{elf, half, word};
 
+use crate::format::{
+    CODE_OFFSET, CODE_START, CURRENT, EXECUTABLE, HEADER_SIZE, IDENT, LOAD, PAGE,
+    PROGRAM_HEADER_SIZE, READ_EXECUTE, RISCV,
+};
 use byteorder::{ByteOrder, LittleEndian};
 use std::alloc::{AllocError, Global};
-
-/// The sizes of the two headers, in bytes.
-const HEADER_SIZE: u32 = 52;
-
-const PROGRAM_HEADER_SIZE: u32 = 32;
-
-/// Where the first word stands in the file, and in memory.
-const CODE_OFFSET: u32 = HEADER_SIZE + PROGRAM_HEADER_SIZE;
-
-const CODE_START: u32 = 0x10054;
-
-/// `e_ident`: the magic number, 32 bits, little endian, version 1.
-const IDENT: [u8; 16] = [0x7F, b'E', b'L', b'F', 1, 1, 1, 0, 0, 0, 0, 0, 0, 0, 0, 0];
-
-/// `e_type` of an executable, and `e_machine` of RISC-V.
-const EXECUTABLE: u16 = 2;
-
-const RISCV: u16 = 243;
-
-/// `e_version`.
-const CURRENT: u32 = 1;
-
-/// `p_type` of a segment to be loaded, and `p_flags` for reading and executing.
-const LOAD: u32 = 1;
-
-const READ_EXECUTE: u32 = 5;
-
-/// `p_align`.
-const PAGE: u32 = 4096;
 
 /// Appends each number in two bytes.
 fn append_halves(file: &mut Vec<u8>, numbers: &[u16]) -> Result<(), AllocError>

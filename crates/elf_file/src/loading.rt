@@ -19,6 +19,10 @@ ghost use Rattle.elf_file.specs.Load.{
 ghost use Rattle.elf_file.specs.Reading.{IsRefusal, Reads};
 
 use crate::fault::{ElfFault, ReadError};
+use crate::format::{
+    E_ENTRY, E_MACHINE, E_PHENTSIZE, E_PHNUM, E_PHOFF, E_TYPE, EXECUTABLE, EXECUTE, HEADER_SIZE,
+    LOAD, MAGIC, P_FILESZ, P_FLAGS, P_MEMSZ, P_OFFSET, P_VADDR, PROGRAM_HEADER_SIZE, RISCV,
+};
 use crate::segments::{Segment, Segments};
 use byteorder::{ByteOrder, LittleEndian};
 use std::alloc::{AllocError, Global};
@@ -55,19 +59,21 @@ fn check_header(file: &[u8]) -> Result<(), ElfFault>
     if file.len() as u64 > MOST {
         return Err(ElfFault::TooLarge);
     }
-    if file.len() < 52 {
+    if file.len() < HEADER_SIZE as usize {
         return Err(ElfFault::Short);
     }
-    if word_at(file, 0) != 0x464C457F {
+    if word_at(file, 0) != MAGIC {
         return Err(ElfFault::Magic);
     }
     if !(file[4] == 1 && file[5] == 1 && file[6] == 1) {
         return Err(ElfFault::Class);
     }
-    if !(half_at(file, 16) == 2 && half_at(file, 42) == 32) {
+    if !(half_at(file, E_TYPE) == EXECUTABLE
+        && half_at(file, E_PHENTSIZE) as u32 == PROGRAM_HEADER_SIZE)
+    {
         return Err(ElfFault::Kind);
     }
-    if half_at(file, 18) != 243 {
+    if half_at(file, E_MACHINE) != RISCV {
         return Err(ElfFault::Machine);
     }
     Ok(())
@@ -95,7 +101,7 @@ fn is_loaded(file: &[u8], offset: usize) -> bool
     requires { offset + 32 ≤ length file.now }
     ensures { result ≡ is_due file.now offset }
 {
-    word_at(file, offset) == 1 && word_at(file, offset + 20) != 0
+    word_at(file, offset) == LOAD && word_at(file, offset + P_MEMSZ) != 0
 }
 
 /// The segment of the program header at an offset cannot be loaded behind earlier ones, which have
@@ -109,11 +115,11 @@ fn cannot_load(file: &[u8], offset: usize, earlier: &[Segment], total: u64) -> b
     ensures inside { result ≡ false → (word_of file.now (offset + 16) ≡ 0) ⊎ (word_of file.now (offset + 4) + word_of file.now (offset + 16) ≤ length file.now) }
     ensures few { result ≡ false → total + word_of file.now (offset + 20) ≤ most }
 {
-    let file_size = word_at(file, offset + 16) as u64;
-    let size = word_at(file, offset + 20) as u64;
-    let start = word_at(file, offset + 8) as u64;
+    let file_size = word_at(file, offset + P_FILESZ) as u64;
+    let size = word_at(file, offset + P_MEMSZ) as u64;
+    let start = word_at(file, offset + P_VADDR) as u64;
     let end = start + size;
-    (file_size != 0 && word_at(file, offset + 4) as u64 + file_size > file.len() as u64)
+    (file_size != 0 && word_at(file, offset + P_OFFSET) as u64 + file_size > file.len() as u64)
         || size < file_size
         || end > 1 << 32
         || overlaps_any(earlier, start, end)
@@ -153,10 +159,14 @@ fn segment_at(alloc: Global, file: &[u8], offset: usize) -> Result<Segment, Allo
     ensures segment { IfOk result (λ segment. segment ≡ segment_of file.now offset) }
     ensures size { IfOk result (λ segment. length segment.bytes ≡ word_of file.now (offset + 20)) }
 {
-    let file_size = word_at(file, offset + 16) as usize;
-    let bytes = file_bytes(file, word_at(file, offset + 4) as usize, file_size);
-    let bytes = padded(alloc, bytes, word_at(file, offset + 20) as usize)?;
-    Ok(Segment::new(word_at(file, offset + 8), bytes, word_at(file, offset + 24)))
+    let file_size = word_at(file, offset + P_FILESZ) as usize;
+    let bytes = file_bytes(file, word_at(file, offset + P_OFFSET) as usize, file_size);
+    let bytes = padded(alloc, bytes, word_at(file, offset + P_MEMSZ) as usize)?;
+    Ok(Segment::new(
+        word_at(file, offset + P_VADDR),
+        bytes,
+        word_at(file, offset + P_FLAGS),
+    ))
 }
 
 /// Adds the segment of the program header `number`, which is at an offset, to earlier ones of `total`
@@ -189,7 +199,7 @@ fn add_segment(
     }
     let segment = segment_at(alloc, file, offset)?;
     segments.push(segment)?;
-    Ok(total + u64::from(word_at(file, offset + 20)))
+    Ok(total + u64::from(word_at(file, offset + P_MEMSZ)))
 }
 
 /// The segments of all program headers.
@@ -214,7 +224,9 @@ fn read_segments(
 fn may_run(segment: &Segment, address: u32) -> bool
     ensures { result ≡ (nat_le segment.now.start address && nat_lt address (segment.now.start + length segment.now.bytes) && bit_and segment.now.flags 1 == 1) }
 {
-    segment.start() <= address && u64::from(address) < segment.end() && segment.flags() & 1 == 1
+    segment.start() <= address
+        && u64::from(address) < segment.end()
+        && segment.flags() & EXECUTE == EXECUTE
 }
 
 /// The address lies in a segment that may be executed.
@@ -239,8 +251,8 @@ pub fn read(alloc: Global, file: &[u8]) -> Result<Segments, ReadError>
     ensures entry { IfOk result (λ segments. segments.entry % 4 ≡ 0) }
 {
     check_header(file)?;
-    let entry = word_at(file, 24);
-    let segments = read_segments(alloc, file, half_at(file, 44), word_at(file, 28))?;
+    let entry = word_at(file, E_ENTRY);
+    let segments = read_segments(alloc, file, half_at(file, E_PHNUM), word_at(file, E_PHOFF))?;
     if !may_begin(&segments, entry) {
         return Err(ReadError::Fault(ElfFault::Entry));
     }

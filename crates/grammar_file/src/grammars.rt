@@ -155,6 +155,7 @@ impl Grammar {
     /// empty, and `#` begins a comment. Symbols that are a left side are nonterminals.
     pub fn read(alloc: Global, bytes: &[u8]) -> Result<Grammar, GrammarFault>
         ensures ok { IfOk result (λ g. Spells bytes.now (Ok g)) }
+        ensures reads { IfOk result (λ g. (read bytes.now ≡ Ok g) × IsReduced g) }
         ensures fault { IfErr result (λ fault. (fault ≡ NoMemory) ⊎ Spells bytes.now (Err fault)) }
         ensures answered { (answer : Result AnyGrammar AnyFault) → Spells bytes.now answer → (result ≡ Err NoMemory) ⊎ (result ≡ answer) }
     {

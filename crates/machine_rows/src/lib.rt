@@ -1,0 +1,10 @@
+//! Worked rows of instructions, files and machines, with values from the standards and from another
+//! assembler.
+#![tactic(auto)]
+
+#[cfg(test)]
+mod files;
+#[cfg(test)]
+mod machines;
+#[cfg(test)]
+mod words;

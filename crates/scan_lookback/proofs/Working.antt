@@ -1,0 +1,91 @@
+-- What a worker's two seats hold, as it goes on.
+use Rattle.std.proofs.Common.{◌≡◌, ℕ, ◌+◌, ◌<◌, ◌≤◌, List, [], ◌∷◌, ◌++◌, sym, ap, ◌∙◌, subst, arith, map, append_assoc}
+use Rattle.std.proofs.lemmas.List.{map-append}
+use Rattle.std.proofs.Common.{Result, Ok, Err}
+use Rattle.std.specs.Result.{OnErr}
+use mathlib.Core.Logic.{dite}
+use native.Mathlib.Decide.{ℕ_discrete}
+use Rattle.chunk_seats.specs.Tallies.{times, one}
+use Rattle.chunk_seats.specs.declared.views.ClaimView.{ClaimView}
+use Rattle.chunk_seats.specs.Claims.{claiming, finishing, joining, shares}
+use Rattle.chunk_seats.proofs.Totals.{times_snoc, one_same, one_other, one_le}
+use Rattle.scan_lookback.specs.declared.views.LookView.{LookView}
+use Rattle.std.specs.Prelude.{All}
+use Rattle.std.proofs.lemmas.List.Elements.{All-append, All-push}
+use Rattle.std.proofs.Common.{Vec, Global}
+use Rattle.word_monoid.specs.Monoid.{Ops}
+use Rattle.scan_lookback.specs.Cuts.{chunk_prefixes}
+use Rattle.scan_lookback.specs.Views.{looks}
+use Rattle.scan_lookback.specs.Worked.{Even, Tidy}
+use Rattle.atomic_table.specs.Seated.{TableId}
+use Rattle.scan_lookback.specs.declared.made.Made.{Made}
+use Rattle.scan_lookback.specs.Made.{Makes}
+
+once_more : (n c : ℕ) (xs : List ℕ) → times n xs ≤ 1 → times c xs ≡ 0 → times n xs + one n c ≤ 1
+once_more n c xs once none = dite (ℕ_discrete n c)
+    (λ e. let here : times n xs ≡ 0 = ap (λ (m : ℕ). times m xs) e ∙ none in omega (arith, one_le n c))
+    (λ ne. omega (arith, one_other n c (λ e. ne (sym e))))
+
+module _ (v : ClaimView) (w : LookView) (c : ℕ) (looked : List (ℕ × ℕ)) (even : Even v w) (fresh : times c v.claimed ≡ 0) where
+  -- a chunk more, from the claim to the end
+  pub even_more : Even (finishing (claiming v c) c) (looks (w.shown ++ c ∷ []) (w.sealed ++ c ∷ []) looked w.share)
+  even_more = record {
+    once = λ n. omega (arith, times_snoc n v.claimed c, once_more n c v.claimed (even.once n) fresh);
+    done = λ n. omega (arith, times_snoc n v.claimed c, times_snoc n v.done c, even.done n);
+    shown = λ n. omega (arith, times_snoc n v.claimed c, times_snoc n w.shown c, even.shown n);
+    sealed = λ n. omega (arith, times_snoc n v.claimed c, times_snoc n w.sealed c, even.sealed n);
+  }
+
+  pub tidy_shown : Tidy (claiming v c) (looks (w.shown ++ c ∷ []) w.sealed looked w.share)
+  tidy_shown = record {
+    once = λ n. omega (arith, times_snoc n w.shown c, even.shown n, once_more n c v.claimed (even.once n) fresh);
+    done = λ n. omega (arith, even.done n, even.sealed n);
+    shown = λ n. omega (arith, times_snoc n v.claimed c, times_snoc n w.shown c, even.shown n);
+  }
+
+  pub tidy_sealed : Tidy (claiming v c) (looks (w.shown ++ c ∷ []) (w.sealed ++ c ∷ []) looked w.share)
+  tidy_sealed = record {
+    once = λ n. omega (arith, times_snoc n w.shown c, even.shown n, once_more n c v.claimed (even.once n) fresh);
+    done = λ n. omega (arith, times_snoc n w.sealed c, even.done n, even.sealed n);
+    shown = λ n. omega (arith, times_snoc n v.claimed c, times_snoc n w.shown c, even.shown n);
+  }
+
+pub on_err : {T E P : Type 0} (r : Result T E) → P → OnErr r P
+on_err (Ok x) p = tt
+on_err (Err e) p = p
+
+pub tidy_as : (v v' : ClaimView) (w w' : LookView) → v' ≡ v → w' ≡ w → Tidy v w → Tidy v' w'
+tidy_as v v' w w' e f = subst (λ (p : ClaimView × LookView). Tidy p.0 p.1) (λ i. (sym e i, sym f i))
+
+pub even_as : (v v' : ClaimView) (w w' : LookView) → v' ≡ v → w' ≡ w → Even v w → Even v' w'
+even_as v v' w w' e f = subst (λ (p : ClaimView × LookView). Even p.0 p.1) (λ i. (sym e i, sym f i))
+
+-- one more chunk among the answers
+pub answers_more : {L : Type 0} (from to old : List ℕ) (all all' : List (ℕ × L)) (c : ℕ) (x : L) → from ≡ old ++ map (λ (p : ℕ × L). p.0) all → to ≡ from ++ c ∷ [] → all' ≡ all ++ (c, x) ∷ [] → to ≡ old ++ map (λ (p : ℕ × L). p.0) all'
+answers_more {L} from to old all all' c x so_far more added =
+    more ∙ (ap (λ (l : List ℕ). l ++ c ∷ []) so_far
+    ∙ (append_assoc old (map (λ (p : ℕ × L). p.0) all) (c ∷ [])
+    ∙ ap (λ (l : List ℕ). old ++ l) (sym (ap (map (λ (p : ℕ × L). p.0)) added ∙ map-append (λ (p : ℕ × L). p.0) all ((c, x) ∷ [])))))
+
+pub all_more : {A : Type 0} (P : A → Type 0) (xs ys : List A) (x : A) → ys ≡ xs ++ x ∷ [] → All P xs → P x → All P ys
+all_more P xs ys x is ps p = subst (All P) (sym is) (All-push P xs x ps p)
+
+pub stands_last : (c : ℕ) (xs ys : List ℕ) → ys ≡ xs ++ c ∷ [] → 0 < times c ys
+stands_last c xs ys is = omega (arith, ap (times c) is, times_snoc c xs c, one_same c)
+
+-- an answer has its chunk's prefixes
+abbrev pub Answered : {T : Type 0} → Ops T → List T → ℕ → ℕ × Vec T Global → Type 0
+Answered ops items size p = p.1.items ≡ chunk_prefixes ops size items p.0
+
+-- two groups of workers are one
+pub makes_join : {T : Type 0} (ops : Ops T) (items : List T) (size : ℕ) (board claims_board : TableId) (m n w : ℕ) (a b r : Made T) → m + n ≡ w → Makes ops items size board claims_board m a → Makes ops items size board claims_board n b
+    → r.seat.board ≡ a.seat.board → r.mine.board ≡ a.mine.board → r.mine.view ≡ joining a.mine.view b.mine.view → r.all.items ≡ a.all.items ++ b.all.items
+    → Makes ops items size board claims_board w r
+makes_join ops items size board claims_board m n w a b r sum ma mb seat_is mine_is view_is items_is = record {
+  board_is = seat_is ∙ ma.board_is;
+  claims_is = mine_is ∙ ma.claims_is;
+  weight = ap (λ (v : ClaimView). v.weight) view_is ∙ (omega (arith, ma.weight, mb.weight));
+  spent = ap (λ (v : ClaimView). v.share) view_is ∙ ap (λ (s : ℕ). shares s b.mine.view.share) ma.spent;
+  drawn = ap (λ (v : ClaimView). v.claimed) view_is ∙ (ap (λ (l : List ℕ). l ++ b.mine.view.claimed) ma.drawn ∙ (ap (λ (l : List ℕ). map (λ p. p.0) a.all.items ++ l) mb.drawn ∙ (sym (map-append (λ p. p.0) a.all.items b.all.items) ∙ sym (ap (map (λ p. p.0)) items_is))));
+  lists = subst (All (Answered ops items size)) (sym items_is) (All-append (Answered ops items size) a.all.items b.all.items ma.lists mb.lists);
+}

@@ -1,0 +1,13 @@
+use Rattle.std.proofs.Common.{rules}
+use Rattle.scan_lookback.proofs.Naming.{scans_of, names_of}
+use Rattle.scan_lookback.proofs.single_pass.scan_lifted.Goals as goal
+
+pub scan_named-requires-clause-scans : goal.scan_named-requires-clause-scans
+scan_named-requires-clause-scans g c = λ κs within.
+    let m = c.args.monoid.now in
+    scans_of (g.M.WordMonoid.ops m) (g.L.Lift.lifted c.args.lift.now) c.args.items.now c.requires.accepted c.args.plan.now.chunk c.args.plan.now.chunk_in_range.0 _ (search rules)
+
+pub scan_named-requires-clause-names : goal.scan_named-requires-clause-names
+scan_named-requires-clause-names g c = λ κs within.
+    let m = c.args.monoid.now in
+    names_of (g.M.WordMonoid.ops m) (g.L.Lift.lifted c.args.lift.now) c.args.items.now c.requires.accepted c.args.plan.now.chunk c.args.plan.now.chunk_in_range.0 c.know_laws.ensures

@@ -1,0 +1,34 @@
+-- Items that are cut into chunks, and what is made of them.
+use Rattle.std.specs.Prelude.{◌≡◌, ℕ, ◌*◌, All, List, length, map, fold, slice_get, Some, take}
+use Rattle.std.specs.List.{range_with_len}
+use Rattle.chunk_seats.specs.Chunks.{chunk_of, chunk_count}
+use Rattle.word_monoid.specs.Monoid.{Ops, IsItem}
+use Rattle.word_monoid.specs.Folds.{fold_of, prefixes_from}
+
+-- each of `lifted` is what a call at the item of its place gives
+pub record Lifts {T I : Type 0} (post : T → I → Type 0) (items : List T) (lifted : List I) : Type 0 where
+  pub as_many : length lifted ≡ length items
+  pub each : (i : ℕ) (x : T) (r : I) → slice_get items i ≡ Some x → post x r → slice_get lifted i ≡ Some r
+
+-- what a call at an item gives is one of the monoid's items
+abbrev pub GivesItems : {T I : Type 0} → (T → I → Type 0) → Ops I → List T → Type 0
+GivesItems {T} {I} post ops items = (i : ℕ) (x : T) (r : I) → slice_get items i ≡ Some x → post x r → IsItem ops r
+
+module _ {I : Type 0} (ops : Ops I) (size : ℕ) (items : List I) where
+  -- the sum of each chunk
+  abbrev pub sums_of : List I
+  sums_of = map (λ c. fold_of ops (chunk_of size items c)) (range_with_len 0 (chunk_count size (length items)))
+
+  -- the joins before each item of the chunk c
+  abbrev pub chunk_prefixes : ℕ → List I
+  chunk_prefixes c = prefixes_from ops items (c * size) (length (chunk_of size items c))
+
+-- the joins of a with the items before each, where more items follow on a
+abbrev pub running : {I : Type 0} → Ops I → I → List I → List I
+running ops a items = map (λ k. fold ops.join a (take k items)) (range_with_len 0 (length items))
+
+-- a scan: `lifted` is what the calls give for the items, all of them items of the monoid, and `sums` are the sums of their chunks
+pub record Scans {T I : Type 0} (ops : Ops I) (post : T → I → Type 0) (size : ℕ) (items : List T) (lifted sums : List I) : Type 0 where
+  pub lifts : Lifts post items lifted
+  pub accepted : All (IsItem ops) lifted
+  pub cut : sums ≡ sums_of ops size lifted

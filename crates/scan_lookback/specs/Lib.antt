@@ -1,0 +1,10 @@
+pub mod Views
+pub mod Posting
+pub mod LookSteps
+pub mod Held
+pub mod Named
+pub mod Found
+pub mod Cuts
+pub mod Worked
+pub mod Made
+pub mod Placed

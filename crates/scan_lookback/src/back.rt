@@ -1,0 +1,114 @@
+//! The look-back: the join of the sums before a chunk, from what others have published (Merrill and Garland, "Single-pass Parallel
+//! Prefix Scan with Decoupled Look-back"). A chunk that isn't published is folded and not waited for.
+ghost use Rattle.std.specs.Prelude.{◌≡◌, ℕ, ◌+◌, ◌<◌, ◌≤◌, length};
+ghost use Rattle.word_monoid.specs.Monoid.{IsItem};
+ghost use Rattle.word_monoid.specs.Folds.{prefix_of};
+ghost use Rattle.scan_lookback.specs.Views.{looks};
+ghost use Rattle.scan_lookback.specs.Held.{held};
+ghost use Rattle.scan_lookback.specs.Found.{Found, KnownAt, IsSum};
+
+use crate::board::{ScanBoard, Seat};
+use crate::look::{Known, Look, Unseen};
+use crate::steps::Steps;
+use crate::views::Chunks;
+use std::sync::ledger::{Blank, Ledger};
+use word_monoid::WordMonoid;
+
+impl<'a, M: WordMonoid, N: Chunks<M::Item>> ScanBoard<'a, M, N> {
+    // What is known of a chunk after a look. Where it found nothing, the chunk is folded.
+    fn known<F: Fn(Unseen) -> M::Item>(
+        &self,
+        j: u64,
+        found: Look<M::Item>,
+        fold: &F,
+    ) -> Known<M::Item>
+        requires chunk { j < self.now.chunks }
+        requires callable { (u : _) → u.chunk ≡ j → F.pre fold.now u }
+        requires folds { (u : _) (x : _) → u.chunk ≡ j → F.post fold.now u x → IsSum (M.ops self.now.monoid) N.sums j x }
+        requires found { (word : ℕ) × Found (M.ops self.now.monoid) N.sums j word found }
+        ensures { KnownAt (M.ops self.now.monoid) N.sums j result }
+    {
+        let _named = self.monoid();
+        match found {
+            Look::Prefix(prefix) => Known::Whole(prefix),
+            Look::Sum(sum) => Known::Part(sum),
+            Look::Nothing(unseen) => Known::Part(fold(unseen)),
+        }
+    }
+
+    // One load, which is one step, and a fold where it finds nothing.
+    fn step<F: Fn(Unseen) -> M::Item, L: Ledger>(
+        &self,
+        seat: &mut Seat,
+        j: u64,
+        fold: &F,
+        steps: &mut Steps<L>,
+    ) -> Known<M::Item>
+        requires board { seat.old.board ≡ self.now.board }
+        requires chunk { j < self.now.chunks }
+        requires callable { (u : _) → u.chunk ≡ j → F.pre fold.now u }
+        requires folds { (u : _) (x : _) → u.chunk ≡ j → F.post fold.now u x → IsSum (M.ops self.now.monoid) N.sums j x }
+        ensures known { KnownAt (M.ops self.now.monoid) N.sums j result }
+        ensures noted { seat.new ≡ held seat.old.board (looks seat.old.view.shown seat.old.view.sealed seat.new.view.looked seat.old.view.share) }
+        ensures load { length seat.new.view.looked ≡ length seat.old.view.looked + 1 }
+        ensures counted { steps.new ≡ steps.old + 1 }
+    {
+        steps.tick();
+        let found = self.look(seat, j);
+        self.known(j, found, fold)
+    }
+
+    /// The join of the sums before a chunk. It looks at the chunks before it, from the nearest on, until one tells its prefix, with
+    /// one load, which is one step, for each. A chunk of which nothing is published is folded.
+    pub fn before<F: Fn(Unseen) -> M::Item, L: Ledger>(
+        &self,
+        seat: &mut Seat,
+        c: u64,
+        fold: &F,
+        steps: &mut Steps<L>,
+    ) -> M::Item
+        requires board { seat.old.board ≡ self.now.board }
+        requires chunk { c < self.now.chunks }
+        requires callable { (u : _) → u.chunk < c → F.pre fold.now u }
+        requires folds { (u : _) (x : _) → u.chunk < c → F.post fold.now u x → IsSum (M.ops self.now.monoid) N.sums u.chunk x }
+        ensures joined { result ≡ prefix_of (M.ops self.now.monoid) N.sums c }
+        ensures item { IsItem (M.ops self.now.monoid) result }
+        ensures noted { seat.new ≡ held seat.old.board (looks seat.old.view.shown seat.old.view.sealed seat.new.view.looked seat.old.view.share) }
+        ensures counted { steps.new + length seat.old.view.looked ≡ steps.old + length seat.new.view.looked }
+        ensures bound { steps.new ≤ steps.old + c }
+        ensures looked { 0 < c → steps.old < steps.new }
+    {
+        let monoid = self.monoid();
+        let mut sum = monoid.unit();
+        let mut j = c;
+        while j > 0 {
+            j -= 1;
+            match self.step(seat, j, fold, steps) {
+                Known::Whole(prefix) => return monoid.join(prefix, sum),
+                Known::Part(part) => sum = monoid.join(part, sum),
+            }
+        }
+        sum
+    }
+
+    // The same, for a caller that counts nothing.
+    pub(crate) fn joined_before<F: Fn(Unseen) -> M::Item, L: Ledger>(
+        &self,
+        seat: &mut Seat,
+        c: u64,
+        fold: &F,
+        blank: Blank,
+    ) -> M::Item
+        requires ledger { (blank.name ≡ L.name) × (blank.parts ≡ L.parts) × (0 < L.parts) }
+        requires board { seat.old.board ≡ self.now.board }
+        requires chunk { c < self.now.chunks }
+        requires callable { (u : _) → u.chunk < c → F.pre fold.now u }
+        requires folds { (u : _) (x : _) → u.chunk < c → F.post fold.now u x → IsSum (M.ops self.now.monoid) N.sums u.chunk x }
+        ensures joined { result ≡ prefix_of (M.ops self.now.monoid) N.sums c }
+        ensures item { IsItem (M.ops self.now.monoid) result }
+        ensures noted { seat.new ≡ held seat.old.board (looks seat.old.view.shown seat.old.view.sealed seat.new.view.looked seat.old.view.share) }
+    {
+        let mut steps = Steps::<L>::new(blank);
+        self.before(seat, c, fold, &mut steps)
+    }
+}

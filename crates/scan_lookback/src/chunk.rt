@@ -1,0 +1,78 @@
+//! What a worker does with one chunk.
+ghost use Rattle.std.specs.Prelude.{◌≡◌, ℕ, ◌+◌, ◌-◌, ◌*◌, ◌<◌, ◌≤◌, ◌^◌, length, IfOk, ◌++◌, ◌∷◌, [], slice_get, Some};
+ghost use Rattle.std.specs.Result.{OnOk, OnErr};
+ghost use Rattle.chunk_seats.specs.Chunks.{chunk_of};
+ghost use Rattle.scan_lookback.specs.Cuts.{Scans, chunk_prefixes};
+ghost use Rattle.scan_lookback.specs.Views.{looks};
+ghost use Rattle.scan_lookback.specs.Held.{held};
+
+use crate::board::{ScanBoard, Seat};
+use crate::look::Unseen;
+use crate::span::{fold_slice, run_slice};
+use crate::views::Chunks;
+use std::alloc::{AllocError, Global};
+use std::marker::Brand;
+use std::sync::ledger::Blank;
+use word_monoid::WordMonoid;
+
+// The items of a chunk.
+fn chunk_slice<T>(items: &[T], size: u32, c: u64) -> &[T]
+    requires { c * size < length items.now }
+    ensures { result.now ≡ chunk_of size items.now c }
+{
+    let from = c as usize * size as usize;
+    let to = from + (items.len() - from).min(size as usize);
+    &items[from..to]
+}
+
+// The sum of a chunk.
+fn chunk_sum<T: Copy, M: WordMonoid, N: Chunks<M::Item>, F: Fn(T) -> M::Item>(
+    monoid: &M,
+    items: &[T],
+    lift: &F,
+    size: u32,
+    c: u64,
+) -> M::Item
+    requires callable { F.IsAlwaysCallable lift.now }
+    requires scans { Scans (M.ops monoid.now) (F.post lift.now) size items.now N.items N.sums }
+    requires size { 0 < size }
+    requires chunk { c < length N.sums }
+    ensures { slice_get N.sums c ≡ Some result }
+{
+    fold_slice(monoid, chunk_slice(items, size, c), lift)
+}
+
+impl<'a, M: WordMonoid, N: Chunks<M::Item>> ScanBoard<'a, M, N> {
+    // Shows a chunk's sum, looks back, makes the prefixes of its items and seals it.
+    pub(crate) fn chunk<T: Copy, F: Fn(T) -> M::Item>(
+        &self,
+        alloc: Global,
+        seat: &mut Seat,
+        items: &[T],
+        lift: &F,
+        size: u32,
+        c: u64,
+    ) -> Result<Vec<M::Item>, AllocError>
+        requires board { seat.old.board ≡ self.now.board }
+        requires callable { F.IsAlwaysCallable lift.now }
+        requires scans { Scans (M.ops self.now.monoid) (F.post lift.now) size items.now N.items N.sums }
+        requires size { 0 < size }
+        requires chunk { c < self.now.chunks }
+        ensures list { IfOk result (λ v. v.items ≡ chunk_prefixes (M.ops self.now.monoid) size N.items c) }
+        ensures sealed { OnOk result (seat.new ≡ held seat.old.board (looks (seat.old.view.shown ++ c ∷ []) (seat.old.view.sealed ++ c ∷ []) seat.new.view.looked seat.old.view.share)) }
+        ensures shown { OnErr result (seat.new ≡ held seat.old.board (looks (seat.old.view.shown ++ c ∷ []) seat.old.view.sealed seat.new.view.looked seat.old.view.share)) }
+    {
+        let monoid = self.monoid();
+        let sum = chunk_sum::<T, M, N, F>(monoid, items, lift, size, c);
+        self.show(seat, c, sum);
+        let fold = |unseen: Unseen| -> M::Item
+            requires { F.IsAlwaysCallable lift.now × Scans (M.ops monoid.now) (F.post lift.now) size items.now N.items N.sums × (0 < size) × (unseen.chunk < length N.sums) }
+            ensures { slice_get N.sums unseen.chunk ≡ Some result }
+        { chunk_sum::<T, M, N, F>(monoid, items, lift, size, unseen.chunk()) };
+        let start = self.joined_before::<_, Brand>(seat, c, &fold, Blank::new(1));
+        let part = chunk_slice(items, size, c);
+        let (list, last) = run_slice(alloc, monoid, part, lift, start)?;
+        self.seal(seat, c, last);
+        Ok(list)
+    }
+}

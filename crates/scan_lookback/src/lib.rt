@@ -1,0 +1,30 @@
+//! A prefix sum in one pass over the items: workers draw chunks, publish the sum of each, and look back over what is published of
+//! the chunks before. No worker waits for another: a chunk that isn't published is folded by who meets it.
+#![tactic(auto)]
+
+mod back;
+mod board;
+mod chunk;
+mod look;
+mod made;
+mod place;
+mod run;
+mod single_pass;
+mod span;
+mod steps;
+mod views;
+mod words;
+mod work;
+
+pub use board::{ScanBoard, Seat};
+pub use look::{Look, Unseen};
+pub use place::assemble;
+pub use single_pass::{scan, scan_lifted};
+pub use steps::Steps;
+pub use views::{Chunks, Codes, Lift, Lifted, LookView};
+pub use word_monoid::{Count, Greatest, Signed, WordMonoid};
+
+#[cfg(test)]
+mod board_tests;
+#[cfg(test)]
+mod tests;

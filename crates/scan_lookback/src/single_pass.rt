@@ -1,0 +1,149 @@
+//! The scan.
+ghost use Rattle.std.specs.Prelude.{◌≡◌, ◌<◌, ◌≤◌, ◌^◌, map, length, IfOk, All};
+ghost use Rattle.chunk_seats.specs.Chunks.{chunk_count};
+ghost use Rattle.word_monoid.specs.Monoid.{IsItem, IsMonoid};
+ghost use Rattle.word_monoid.specs.Folds.{fold_of, prefixes, prefixes_from};
+ghost use Rattle.scan_lookback.specs.Named.{Names};
+ghost use Rattle.scan_lookback.specs.Cuts.{Scans};
+
+use crate::board::ScanBoard;
+use crate::made::Made;
+use crate::place::assemble;
+use crate::run::run;
+use crate::views::{Chunks, Lift, Lifted};
+use chunk_seats::{ClaimBoard, Gate, Plan};
+use std::alloc::{AllocError, Global};
+use std::marker::Brand;
+use std::thread::Threads;
+use word_monoid::WordMonoid;
+
+// The laws, for a caller that starts threads.
+fn know_laws<M: WordMonoid>(monoid: &M)
+    ensures { IsMonoid (M.ops monoid.now) }
+{
+    let _ = monoid;
+}
+
+// The join of all items, where the joins before each are known.
+fn total<T: Copy, M: WordMonoid, N: Chunks<M::Item>, F: Fn(T) -> M::Item>(
+    monoid: &M,
+    items: &[T],
+    lift: &F,
+    size: u32,
+    out: &[M::Item],
+) -> M::Item
+    requires callable { F.IsAlwaysCallable lift.now }
+    requires scans { Scans (M.ops monoid.now) (F.post lift.now) size items.now N.items N.sums }
+    requires out { out.now ≡ prefixes_from (M.ops monoid.now) N.items 0 (length N.items) }
+    ensures { result ≡ fold_of (M.ops monoid.now) N.items }
+{
+    let _ = size;
+    let len = items.len();
+    if len == 0 {
+        return monoid.unit();
+    }
+    let last = items[len - 1];
+    monoid.join(out[len - 1], lift(last))
+}
+
+// How many chunks of that size the items make.
+fn count_chunks(len: usize, size: u32) -> usize
+    requires len { len < 2 ^ 62 }
+    requires size { (0 < size) × (size ≤ 65536) }
+    ensures { result ≡ chunk_count size len }
+{
+    (len + (size as usize - 1)) / size as usize
+}
+
+// The scan, where the run's lists have names.
+fn scan_named<
+    T: Copy + Sync,
+    M: WordMonoid<Item: Send + Sync> + Sync,
+    F: Fn(T) -> M::Item + Sync,
+    G: Gate,
+    R: Threads + Sync,
+    N: Chunks<M::Item> + Send + Sync,
+>(
+    rt: &R,
+    alloc: Global,
+    plan: &Plan,
+    gate: &G,
+    monoid: &M,
+    items: &[T],
+    lift: &F,
+) -> Result<Vec<M::Item>, AllocError>
+    requires len { length items.now < 2 ^ 62 }
+    requires callable { F.IsAlwaysCallable lift.now }
+    requires scans { Scans (M.ops monoid.now) (F.post lift.now) plan.now.chunk items.now N.items N.sums }
+    requires names { Names (M.ops monoid.now) N.sums N.sum_codes N.prefix_codes }
+    ensures { IfOk result (λ v. v.items ≡ prefixes (M.ops monoid.now) N.items) }
+{
+    know_laws(monoid);
+    let count = count_chunks(items.len(), plan.chunk);
+    let workers = (plan.workers as usize).min(count.max(1)) as u32;
+    let (claims, mine) = ClaimBoard::new(alloc, count as u64, workers)?;
+    let (board, seat) = ScanBoard::<M, N>::new(alloc, monoid, count as u64, workers)?;
+    let made = run(
+        rt, alloc, &board, &claims, seat, mine, plan, gate, 0, workers, items, lift,
+    )?;
+    let Made { seat, mine, all } = made;
+    board.close(seat);
+    claims.close(mine);
+    let mut out = assemble(alloc, count, items.len() + 1, all)?;
+    let last = total::<T, M, N, F>(monoid, items, lift, plan.chunk, out.as_slice());
+    out.push(last)?;
+    Ok(out)
+}
+
+/// The join of what is made of the items before each item, and then the join of all: one more than there are items. It is the same
+/// for every plan and gate. The only refusal is that memory is out.
+pub fn scan_lifted<
+    T: Copy + Sync,
+    M: WordMonoid<Item: Send + Sync> + Sync,
+    L: Lift<T, M::Item> + Sync,
+    G: Gate,
+    R: Threads + Sync,
+>(
+    rt: &R,
+    alloc: Global,
+    plan: &Plan,
+    gate: &G,
+    monoid: &M,
+    items: &[T],
+    lift: &L,
+) -> Result<Vec<M::Item>, AllocError>
+    requires len { length items.now < 2 ^ 62 }
+    requires accepted { All (λ x. IsItem (M.ops monoid.now) (L.lifted lift.now x)) items.now }
+    ensures { IfOk result (λ v. v.items ≡ prefixes (M.ops monoid.now) (map (L.lifted lift.now) items.now)) }
+{
+    know_laws(monoid);
+    let lifted = |x: T| lift.lift(x);
+    scan_named::<T, M, _, G, R, Brand>(rt, alloc, plan, gate, monoid, items, &lifted)
+}
+
+/// The same for a closure. K names the code of what it gives for an item; the call passes `Brand` and picks it.
+pub fn scan<
+    T: Copy + Sync,
+    M: WordMonoid<Item: Send + Sync> + Sync,
+    F: Fn(T) -> M::Item + Sync,
+    G: Gate,
+    R: Threads + Sync,
+    K: Lifted<T>,
+>(
+    rt: &R,
+    alloc: Global,
+    plan: &Plan,
+    gate: &G,
+    monoid: &M,
+    items: &[T],
+    lift: &F,
+) -> Result<Vec<M::Item>, AllocError>
+    requires len { length items.now < 2 ^ 62 }
+    requires callable { F.IsAlwaysCallable lift.now }
+    requires lifts { (x : T) (r : M.Item) → F.post lift.now x r → r ≡ (M.ops monoid.now).decode (K.code_of x) }
+    requires accepted { All (λ x. IsItem (M.ops monoid.now) ((M.ops monoid.now).decode (K.code_of x))) items.now }
+    ensures { IfOk result (λ v. v.items ≡ prefixes (M.ops monoid.now) (map (λ x. (M.ops monoid.now).decode (K.code_of x)) items.now)) }
+{
+    know_laws(monoid);
+    scan_named::<T, M, F, G, R, Brand>(rt, alloc, plan, gate, monoid, items, lift)
+}

@@ -1,0 +1,48 @@
+//! Folds and prefixes of a slice of items.
+ghost use Rattle.std.specs.Prelude.{◌≡◌, List, length, fold, IfOk};
+ghost use Rattle.word_monoid.specs.Monoid.{IsItem};
+ghost use Rattle.word_monoid.specs.Folds.{fold_of};
+ghost use Rattle.scan_lookback.specs.Cuts.{Lifts, GivesItems, running};
+
+use std::alloc::{AllocError, Global};
+use word_monoid::WordMonoid;
+
+// The join of what is made of the items.
+pub(crate) fn fold_slice<T: Copy, M: WordMonoid, F: Fn(T) -> M::Item>(
+    monoid: &M,
+    part: &[T],
+    lift: &F,
+) -> M::Item
+    requires callable { F.IsAlwaysCallable lift.now }
+    requires items { GivesItems (F.post lift.now) (M.ops monoid.now) part.now }
+    ensures { (lifted : List M.Item) → Lifts (F.post lift.now) part.now lifted → result ≡ fold_of (M.ops monoid.now) lifted }
+{
+    let mut sum = monoid.unit();
+    for x in part {
+        sum = monoid.join(sum, lift(*x));
+    }
+    sum
+}
+
+// The joins of a start with what is made of the items before each, and of all.
+pub(crate) fn run_slice<T: Copy, M: WordMonoid, F: Fn(T) -> M::Item>(
+    alloc: Global,
+    monoid: &M,
+    part: &[T],
+    lift: &F,
+    start: M::Item,
+) -> Result<(Vec<M::Item>, M::Item), AllocError>
+    requires callable { F.IsAlwaysCallable lift.now }
+    requires items { GivesItems (F.post lift.now) (M.ops monoid.now) part.now }
+    requires start { IsItem (M.ops monoid.now) start }
+    ensures list { IfOk result (λ r. (lifted : List M.Item) → Lifts (F.post lift.now) part.now lifted → r.0.items ≡ running (M.ops monoid.now) start lifted) }
+    ensures last { IfOk result (λ r. (lifted : List M.Item) → Lifts (F.post lift.now) part.now lifted → r.1 ≡ fold (M.ops monoid.now).join start lifted) }
+{
+    let mut sum = start;
+    let mut all = Vec::with_capacity(alloc, part.len())?;
+    for x in part {
+        all.push(sum)?;
+        sum = monoid.join(sum, lift(*x));
+    }
+    Ok((all, sum))
+}
