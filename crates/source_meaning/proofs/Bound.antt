@@ -1,8 +1,8 @@
 -- Answers of the interpreter, behind a first run.
 use Rattle.std.proofs.Common.{◌≡◌, ◌≢◌, ℕ, zero, suc, ◌-◌, ◌+◌, ◌<◌, List, Option, Some, None, arith, [], ◌∷◌, ◌++◌, Result, Ok, Err, IsErrAnd, refl, sym, ap, ◌∙◌, subst}
 use Rattle.std.proofs.lemmas.List.{append_assoc}
-use Rattle.source_meaning.specs.Meaning.{loop, then_next, Run, gives, stops, ◌>>=◌, Deep as AtDeep, More as AtMore, Table, Outcome, Ended, Stopped, returned}
-use Rattle.source_meaning.specs.Running.{RunsTo, ValuesRunTo, CallsTo}
+use Rattle.source_meaning.specs.Meaning.{loop, then_next, Run, gives, ◌>>=◌, Table}
+use Rattle.source_meaning.specs.Running.{RunsTo, ValuesRunTo}
 use Rattle.source_meaning.specs.declared.interpreter.Stop.{Stop}
 use Rattle.source_meaning.specs.declared.interpreter.Stop.TheVariants.{Deep, More, NoMemory}
 

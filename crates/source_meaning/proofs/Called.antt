@@ -1,11 +1,11 @@
 -- A call of a function whose frame fits.
-use Rattle.std.proofs.Common.{◌≡◌, ℕ, suc, ◌-◌, ◌+◌, ◌<◌, ◌^◌, nat_lt, true, false, List, [], map, codes, ◌++◌, replicate, Option, Some, None, Result, Ok, Err, IsErrAnd, sym, ap, ◌∙◌, subst, arith}
+use Rattle.std.proofs.Common.{◌≡◌, ℕ, suc, ◌-◌, ◌<◌, ◌^◌, nat_lt, true, false, List, [], map, codes, ◌++◌, replicate, Option, Some, None, Result, Ok, Err, IsErrAnd, sym, ap, ◌∙◌, subst, arith}
 use Rattle.std.specs.Option.{unwrap_or}
 use Rattle.source_meaning.specs.Ast.{Stmt, Function, Program}
 use Rattle.source_meaning.specs.Scope.{body_scope, no_scope, params_scope, variables_in, function_of}
 use Rattle.source_meaning.specs.Frames.{frame}
 use Rattle.source_meaning.specs.Counts.{capped}
-use Rattle.source_meaning.specs.Meaning.{Run, gives, run, ended, call_in, main_in, meaning, World, Table, Outcome, Ended, Stopped, Deep as AtDeep, More as AtMore}
+use Rattle.source_meaning.specs.Meaning.{Run, gives, run, ended, call_in, main_in, meaning, World, Table, Outcome, Ended, Stopped, Deep as AtDeep}
 use Rattle.source_meaning.specs.Trees.{param_of}
 use Rattle.source_meaning.specs.Running.{RunsTo, CallsTo}
 use Rattle.source_meaning.specs.declared.trees.Param.{Param}

@@ -1,8 +1,7 @@
 -- Variables in scope, found by their names and numbers.
 use Rattle.std.proofs.Common.{◌≡◌, ℕ, List, [], ◌∷◌, map, Option, Some, None, option_map, refl, true, false, bytes_eq, find, sym, ap, ◌∙◌}
-use Rattle.source_meaning.specs.Ast.{Expr, num, truth, name, call, unary, binary, and, or, assign}
 use Rattle.source_meaning.specs.Scope.{Scope, Variable, variable_of}
-use Rattle.source_meaning.specs.Meaning.{Table, value_in, stored_in, target}
+use Rattle.source_meaning.specs.Meaning.{Table, value_in, stored_in}
 use Rattle.source_meaning.specs.Running.{number_named, name_of, value_numbered, stored_numbered, named, IsScope}
 use Rattle.source_meaning.specs.declared.names.Scope.{Scope as NamesScope}
 

@@ -1,5 +1,5 @@
 -- The tree that a value of the trees' types is.
-use Rattle.std.specs.Prelude.{ℕ, List, map}
+use Rattle.std.specs.Prelude.{map}
 use Rattle.source_meaning.specs.Ast.{Expr as ExprTree, num, truth, name, call, unary, binary, and, or, assign, Args as ArgsTree, no_args, arg, Stmt as StmtTree, var, if_only, if_else, stray_else, while, return, block, eval, Stmts as StmtsTree, no_stmts, stmt, Param as ParamOf, Function as FunctionOf, Program as ProgramOf}
 use Rattle.source_meaning.specs.declared.trees.Expr.{Expr}
 use Rattle.source_meaning.specs.declared.trees.Expr.TheVariants.{Num, Truth, Name, Call, Unary', Binary', And', Or', Assign'}

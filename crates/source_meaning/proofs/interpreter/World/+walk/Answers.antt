@@ -1,7 +1,6 @@
-use Rattle.std.proofs.Common.{◌≡◌, ◌-◌, ◌++◌, map, replicate, sym, ap, ◌∙◌, arith}
-use Rattle.source_meaning.specs.Meaning.{gives, Ended, World, call_in}
+use Rattle.std.proofs.Common.{◌-◌, ◌++◌, map, replicate, sym, ap, ◌∙◌, arith}
+use Rattle.source_meaning.specs.Meaning.{gives, Ended, call_in}
 use Rattle.source_meaning.specs.Trees.{stmt_of, function_of}
-use Rattle.source_meaning.specs.Running.{IsScope, RunsTo, ValuesRunTo, world_of}
 use Rattle.source_meaning.proofs.Bound.{stops_as, goes_on, then_gives, unless_zero, if_zero, values_stop_as, values_go_on, condition_stops, condition_ends, body_stops, body_returns, goes_round}
 use Rattle.source_meaning.specs.Scope.{past, behind, no_scope}
 use Rattle.source_meaning.proofs.Called.{variables_fit, call_is, ended_gives, body_stops_call}
