@@ -2,6 +2,7 @@
 
 use byteorder::{ByteOrder, LittleEndian};
 use elf_file::{ElfFault, ReadError, read, write};
+use rv_isa::FaultKind;
 use rv32_emul::{Machine, Outcome};
 use std::test::Fail;
 
@@ -129,7 +130,7 @@ fn numbers(rt: HostRuntime) {
     }
 }
 
-/// A segment up to the last address before the stack and up to 2^32, one of 64 MiB, and one whose last word is cut.
+/// A segment up to the stack, one behind it, ones up to 2^32, one whose last word is cut, and one of 64 MiB.
 #[test]
 fn edges(rt: HostRuntime) -> Result<(), Fail> {
     for start in [0x6FFFFFC4u32, 0xFFFFFFC4, 0x70100000] {
@@ -139,6 +140,31 @@ fn edges(rt: HostRuntime) -> Result<(), Fail> {
         let mut m = Machine::load(rt.alloc(), &file)?;
         assert_eq!(rt; m.run(14), Outcome::Exit(7));
     }
+    // the last word of all addresses: behind it the pc is 0
+    let mut file = write(rt.alloc(), &[0x00000013])?;
+    assert!(rt; file.len() == 88);
+    LittleEndian::write_u32(&mut file[24..28], 0xFFFFFFFC);
+    LittleEndian::write_u32(&mut file[60..64], 0xFFFFFFFC);
+    let mut m = Machine::load(rt.alloc(), &file)?;
+    assert_eq!(rt; m.run(1), Outcome::More);
+    let fault = Outcome::Fault {
+        kind: FaultKind::Fetch,
+        at: 0,
+        address: 0,
+    };
+    assert_eq!(rt; m.run(1), fault);
+    // a load of a word of which two bytes are in the segment
+    let mut file = write(rt.alloc(), &[0x00000397, 0x0083A503, 0x05D00893])?;
+    assert!(rt; file.len() == 96);
+    LittleEndian::write_u32(&mut file[68..72], 10);
+    LittleEndian::write_u32(&mut file[72..76], 10);
+    let mut m = Machine::load(rt.alloc(), &file)?;
+    let fault = Outcome::Fault {
+        kind: FaultKind::Load,
+        at: 0x10058,
+        address: 0x1005C,
+    };
+    assert_eq!(rt; m.run(2), fault);
     let mut file = FILE;
     LittleEndian::write_u32(&mut file[72..76], 0x04000000);
     let mut m = Machine::load(rt.alloc(), &file)?;

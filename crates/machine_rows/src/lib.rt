@@ -5,6 +5,8 @@
 #[cfg(test)]
 mod files;
 #[cfg(test)]
+mod linked;
+#[cfg(test)]
 mod machines;
 #[cfg(test)]
 mod words;
