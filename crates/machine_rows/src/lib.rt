@@ -1,5 +1,4 @@
-//! Worked rows of instructions, files and machines, with values from the standards and from another
-//! assembler.
+//! Worked words, files and machines, with values from the standards and from another assembler.
 #![tactic(auto)]
 
 #[cfg(test)]
