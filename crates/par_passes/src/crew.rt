@@ -1,0 +1,143 @@
+//! The workers of a pass.
+ghost use Rattle.std.specs.Prelude.{◌≡◌, ℕ, ◌+◌, ◌<◌, ◌≤◌, ◌^◌, ◌++◌, List, All, map, flat_map, IfOk, Ok};
+ghost use Rattle.std.specs.Global.{Vec};
+ghost use Rattle.std.specs.List.{range_with_len};
+ghost use Rattle.std.specs.Result.{OnOk};
+ghost use Rattle.std.specs.Thread.{IsSync};
+ghost use Rattle.chunk_seats.specs.Claims.{fresh};
+ghost use Rattle.par_passes.specs.Crews.{Gave, Makes};
+
+use chunk_seats::{ClaimBoard, Gate, Plan, Seat};
+use scan_lookback::assemble;
+use std::alloc::{AllocError, Global};
+use std::thread::{Threads, join};
+
+// What a group of workers leaves: its seat, and the chunks that it drew with what was made of each.
+#[derive(Drop)]
+pub(crate) struct Made<U: Copy> {
+    pub mine: Seat,
+    pub all: Vec<(u64, Vec<U>)>,
+}
+
+// All that one worker does: it draws chunks until none is left.
+fn work<U: Copy, F: Fn(u64) -> Result<Vec<U>, AllocError>, G: Gate>(
+    alloc: Global,
+    claims: &ClaimBoard,
+    mine: &mut Seat,
+    gate: &G,
+    worker: u32,
+    make: &F,
+) -> Result<Vec<(u64, Vec<U>)>, AllocError>
+    requires board { mine.old.board ≡ claims.now.board }
+    requires unspent { 0 < mine.old.view.share }
+    requires callable { F.IsAlwaysCallable make.now }
+    ensures board { mine.new.board ≡ mine.old.board }
+    ensures weight { mine.new.view.weight ≡ mine.old.view.weight }
+    ensures spent { OnOk result (mine.new.view.share ≡ 0) }
+    ensures drawn { IfOk result (λ v. mine.new.view.claimed ≡ mine.old.view.claimed ++ map (λ p. p.0) v.items) }
+    ensures lists { IfOk result (λ v. All (Gave claims.now.chunks (F.post make.now)) v.items) }
+{
+    let mut all = Vec::new(alloc);
+    while let Some(c) = claims.claim(mine) {
+        gate.after_claim(worker, Some(c));
+        let list = make(c)?;
+        all.push((c, list))?;
+    }
+    gate.after_claim(worker, None);
+    Ok(all)
+}
+
+// Two groups of workers are one.
+fn merge<U: Copy, F: Fn(u64) -> Result<Vec<U>, AllocError>>(
+    claims: &ClaimBoard,
+    make: &F,
+    rest: u32,
+    half: u32,
+    one: Made<U>,
+    two: Made<U>,
+) -> Result<Made<U>, AllocError>
+    requires one { Makes claims.now.chunks (F.post make.now) claims.now.board rest one }
+    requires two { Makes claims.now.chunks (F.post make.now) claims.now.board half two }
+    ensures { IfOk result (λ r. Makes claims.now.chunks (F.post make.now) claims.now.board (rest + half) r) }
+{
+    let _ = make;
+    let _ = (rest, half);
+    let Made { mut mine, mut all } = one;
+    let Made {
+        mine: theirs,
+        all: mut more,
+    } = two;
+    claims.join(&mut mine, theirs);
+    all.append(&mut more)?;
+    Ok(Made { mine, all })
+}
+
+// That many workers, each in a thread of its own where threads can be made.
+fn run<
+    U: Copy + Send + Sync,
+    F: Fn(u64) -> Result<Vec<U>, AllocError> + Sync,
+    G: Gate,
+    R: Threads + Sync,
+>(
+    rt: &R,
+    alloc: Global,
+    claims: &ClaimBoard,
+    mut mine: Seat,
+    gate: &G,
+    first: u32,
+    workers: u32,
+    make: &F,
+) -> Result<Made<U>, AllocError>
+    requires board { mine.board ≡ claims.now.board }
+    requires new { mine.view ≡ fresh workers }
+    requires workers { (1 ≤ workers) × (first + workers ≤ 64) }
+    requires callable { F.IsAlwaysCallable make.now }
+    ensures { IfOk result (λ r. Makes claims.now.chunks (F.post make.now) claims.now.board workers r) }
+{
+    if workers == 1 {
+        let all = work(alloc, claims, &mut mine, gate, first, make)?;
+        return Ok(Made { mine, all });
+    }
+    let half = workers / 2;
+    let rest = workers - half;
+    let after = first + rest;
+    let theirs = claims.split(&mut mine, half);
+    let (one, two) = join(
+        rt,
+        move || -> Result<Made<U>, AllocError>
+            requires { IsSync R.row × (mine.board ≡ claims.now.board) × (mine.view ≡ fresh rest) × (1 ≤ rest) × (first + rest ≤ 64) × F.IsAlwaysCallable make.now }
+            ensures { IfOk result (λ r. Makes claims.entry.now.chunks (F.post make.entry.now) claims.entry.now.board rest r) }
+        { run(rt, alloc, claims, mine, gate, first, rest, make) },
+        move || -> Result<Made<U>, AllocError>
+            requires { IsSync R.row × (theirs.board ≡ claims.now.board) × (theirs.view ≡ fresh half) × (1 ≤ half) × (after + half ≤ 64) × F.IsAlwaysCallable make.now }
+            ensures { IfOk result (λ r. Makes claims.entry.now.chunks (F.post make.entry.now) claims.entry.now.board half r) }
+        { run(rt, alloc, claims, theirs, gate, after, half, make) },
+    );
+    merge(claims, make, rest, half, one?, two?)
+}
+
+/// What is made of each chunk, one behind the other by number, for every plan and gate. `capacity` says how many values there will be.
+pub(crate) fn by_chunks<
+    U: Copy + Send + Sync,
+    F: Fn(u64) -> Result<Vec<U>, AllocError> + Sync,
+    G: Gate,
+    R: Threads + Sync,
+>(
+    rt: &R,
+    alloc: Global,
+    plan: &Plan,
+    gate: &G,
+    count: usize,
+    capacity: usize,
+    make: &F,
+) -> Result<Vec<U>, AllocError>
+    requires count { count < 2 ^ 62 }
+    requires callable { F.IsAlwaysCallable make.now }
+    ensures { IfOk result (λ v. (part : ℕ → List U) → ((c : ℕ) (x : Vec U) → c < count → F.post make.now c (Ok x) → x.items ≡ part c) → v.items ≡ flat_map part (range_with_len 0 count)) }
+{
+    let workers = (plan.workers as usize).min(count.max(1)) as u32;
+    let (claims, mine) = ClaimBoard::new(alloc, count as u64, workers)?;
+    let Made { mine, all } = run(rt, alloc, &claims, mine, gate, 0, workers, make)?;
+    claims.close(mine);
+    assemble(alloc, count, capacity, all)
+}

@@ -1,0 +1,78 @@
+//! A function of each item.
+ghost use Rattle.std.specs.Prelude.{◌≡◌, ℕ, ◌<◌, ◌^◌, List, length, All, map, IfOk};
+ghost use Rattle.chunk_seats.specs.Chunks.{chunk_of};
+ghost use Rattle.par_passes.specs.Passes.{Maps};
+
+use crate::chunk::{chunk_slice, count_chunks};
+use crate::crew::by_chunks;
+use chunk_seats::{Gate, Plan};
+use scan_lookback::Lift;
+use std::alloc::{AllocError, Global};
+use std::thread::Threads;
+
+// What the function gives for each item.
+fn map_slice<T: Copy, U: Copy, F: Fn(T) -> U>(
+    alloc: Global,
+    part: &[T],
+    f: &F,
+) -> Result<Vec<U>, AllocError>
+    requires callable { All (F.pre f.now) part.now }
+    ensures { IfOk result (λ v. Maps (F.post f.now) part.now v.items) }
+{
+    let mut out = Vec::with_capacity(alloc, part.len())?;
+    for x in part {
+        out.push(f(*x))?;
+    }
+    Ok(out)
+}
+
+// The same for a chunk of the items.
+fn map_chunk<T: Copy, U: Copy, F: Fn(T) -> U>(
+    alloc: Global,
+    items: &[T],
+    size: u32,
+    f: &F,
+    c: u64,
+) -> Result<Vec<U>, AllocError>
+    requires callable { All (F.pre f.now) items.now }
+    ensures { IfOk result (λ v. Maps (F.post f.now) (chunk_of size items.now c) v.items) }
+{
+    map_slice(alloc, chunk_slice(items, size, c), f)
+}
+
+/// What the function gives for each item, in the items' order. It is the same for every plan and gate. The only refusal is that
+/// memory is out.
+pub fn map<T: Copy + Sync, U: Copy + Send + Sync, F: Fn(T) -> U + Sync, G: Gate, R: Threads + Sync>(
+    rt: &R,
+    alloc: Global,
+    plan: &Plan,
+    gate: &G,
+    items: &[T],
+    f: &F,
+) -> Result<Vec<U>, AllocError>
+    requires len { length items.now < 2 ^ 62 }
+    requires callable { All (F.pre f.now) items.now }
+    ensures { IfOk result (λ v. (g : T → U) → All (λ x. (r : U) → F.post f.now x r → r ≡ g x) items.now → v.items ≡ map g items.now) }
+{
+    let size = plan.chunk;
+    let make = |c: u64| -> Result<Vec<U>, AllocError>
+        requires { All (F.pre f.now) items.now }
+        ensures { IfOk result (λ v. Maps (F.post f.entry.now) (chunk_of size items.entry.now c) v.items) }
+    { map_chunk(alloc, items, size, f, c) };
+    let count = count_chunks(items.len(), size);
+    by_chunks(rt, alloc, plan, gate, count, items.len(), &make)
+}
+
+/// The same for a function that contracts can name.
+pub fn map_lifted<
+    T: Copy + Sync,
+    U: Copy + Send + Sync,
+    L: Lift<T, U> + Sync,
+    G: Gate,
+    R: Threads + Sync,
+>(rt: &R, alloc: Global, plan: &Plan, gate: &G, items: &[T], lift: &L) -> Result<Vec<U>, AllocError>
+    requires len { length items.now < 2 ^ 62 }
+    ensures { IfOk result (λ v. v.items ≡ map (L.lifted lift.now) items.now) }
+{
+    map(rt, alloc, plan, gate, items, &|x: T| lift.lift(x))
+}

@@ -1,0 +1,17 @@
+//! Passes over arrays. Workers draw chunks of the items from a shared board, and the chunks' results are put together by number, so
+//! that each pass gives its list's definition whatever the plan is.
+#![tactic(auto)]
+
+mod chunk;
+mod crew;
+mod each;
+mod marked;
+mod places;
+
+pub use each::{map, map_lifted};
+pub use marked::compact;
+pub use places::gather;
+pub use scan_lookback::{Lift, scan, scan_lifted};
+
+#[cfg(test)]
+mod tests;

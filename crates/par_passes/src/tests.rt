@@ -1,0 +1,201 @@
+//! Passes, for every kind of plan, and who works on them.
+ghost use Rattle.std.specs.Prelude.{◌≡◌, ◌<◌, ◌^◌, ◌/◌, length, map, IfOk};
+
+use super::*;
+use chunk_seats::{Gate, OpenGate, Plan};
+use std::alloc::{AllocError, Global};
+use std::process::Abort;
+use std::sync::atomic::{AtomicU64, Ordering};
+use std::test::*;
+use std::thread::Threads;
+
+struct More;
+
+impl Lift<u32, u64> for More {
+    ghost use Rattle.std.specs.Prelude.{◌+◌};
+
+    ghost lifted = { λ _ x. x + 1 };
+
+    fn lift(&self, x: u32) -> u64 {
+        u64::from(x) + 1
+    }
+}
+
+// How a closure is passed.
+fn halves<R: Threads + Sync>(
+    rt: &R,
+    alloc: Global,
+    plan: &Plan,
+    xs: &[u64],
+) -> Result<Vec<u64>, AllocError>
+    requires len { length xs.now < 2 ^ 62 }
+    ensures { IfOk result (λ v. v.items ≡ map (λ x. x / 2) xs.now) }
+{
+    map(rt, alloc, plan, &OpenGate, xs, &|x: u64| x / 2)
+}
+
+fn rows<R: Threads + Abort + Sync>(
+    rt: &R,
+    alloc: Global,
+    workers: u32,
+    chunk: u32,
+) -> Result<(), Fail> {
+    let plan = Plan::new(workers, chunk).ok_or("in range")?;
+    let more = map_lifted(rt, alloc, &plan, &OpenGate, &[1, 2], &More)?;
+    assert!(rt; more.as_slice() == [2, 3].as_slice());
+    let none = map_lifted(rt, alloc, &plan, &OpenGate, &[], &More)?;
+    assert!(rt; none.is_empty());
+    let half = halves(rt, alloc, &plan, &[2, 4, 7])?;
+    assert!(rt; half.as_slice() == [1, 2, 3].as_slice());
+    let placed = gather(rt, alloc, &plan, &OpenGate, &[5, 6, 7], &[2, 0, 2])?;
+    assert!(rt; placed.as_slice() == [7, 5, 7].as_slice());
+    let kept = compact(
+        rt,
+        alloc,
+        &plan,
+        &OpenGate,
+        &[5, 6, 7],
+        &[true, false, true],
+    )?;
+    assert!(rt; kept.as_slice() == [5, 7].as_slice());
+    Ok(())
+}
+
+#[test]
+fn the_same_for_every_plan(rt: HostRuntime) -> Result<(), Fail> {
+    for workers in [1, 4, 64] {
+        for chunk in [1, 7, 65536] {
+            rows(&rt, rt.alloc(), workers, chunk)?;
+        }
+    }
+    Ok(())
+}
+
+#[test]
+fn one_chunk_and_one_item_more(rt: HostRuntime) -> Result<(), Fail> {
+    let plan = Plan::new(4, 7).ok_or("in range")?;
+    for n in 6..9 {
+        let xs = vec![in rt.alloc(); 5u32; n]?;
+        let more = map_lifted(&rt, rt.alloc(), &plan, &OpenGate, xs.as_slice(), &More)?;
+        assert_eq!(rt; more.len(), n);
+        assert!(rt; more.iter().all(|x| *x == 6));
+    }
+    Ok(())
+}
+
+// Eight bits for each worker, which count how often it found no chunk left, and a bit for each chunk that was drawn.
+#[derive(Drop)]
+struct Roll {
+    ended: AtomicU64,
+    drawn: AtomicU64,
+}
+
+impl Gate for Roll {
+    fn after_claim(&self, worker: u32, chunk: Option<u64>) {
+        let bits = match worker {
+            0..8 => 1 << (8 * worker),
+            _ => 2,
+        };
+        match chunk {
+            Some(c @ 0..64) => self.drawn.fetch_or(1 << c, Ordering::SeqCst),
+            Some(_) => 0,
+            None => self.ended.fetch_add(bits, Ordering::SeqCst),
+        };
+    }
+}
+
+fn rolls<R: Threads + Abort + Sync>(
+    rt: &R,
+    alloc: Global,
+    plan: &Plan,
+    items: &[u32],
+) -> Result<(u64, u64), Fail> {
+    let roll = Roll {
+        ended: AtomicU64::new(0),
+        drawn: AtomicU64::new(0),
+    };
+    let _all = map_lifted(rt, alloc, plan, &roll, items, &More)?;
+    Ok((
+        roll.ended.load(Ordering::SeqCst),
+        roll.drawn.load(Ordering::SeqCst),
+    ))
+}
+
+#[test]
+fn each_worker_tells_its_number(rt: HostRuntime) -> Result<(), Fail> {
+    let four = Plan::new(4, 1).ok_or("in range")?;
+    assert_eq!(rt;
+        rolls(&rt, rt.alloc(), &four, &[3, 1, 4, 1, 5])?,
+        (0x0101_0101, 0b11111)
+    );
+    // no more workers than chunks, and one where there is none
+    let many = Plan::new(64, 2).ok_or("in range")?;
+    assert_eq!(rt; rolls(&rt, rt.alloc(), &many, &[3, 1, 4])?, (0x0101, 0b11));
+    assert_eq!(rt; rolls(&rt, rt.alloc(), &many, &[])?, (1, 0));
+    Ok(())
+}
+
+// The first worker that draws chunk 0 waits until the other has drawn too, for so many turns at most.
+#[derive(Drop)]
+struct Meeting {
+    claims: [AtomicU64; 2],
+    met: AtomicU64,
+    alone: AtomicU64,
+}
+
+const TURNS: u64 = 1 << 26;
+
+fn nobody_yet() -> Meeting {
+    Meeting {
+        claims: [AtomicU64::new(0), AtomicU64::new(0)],
+        met: AtomicU64::new(0),
+        alone: AtomicU64::new(0),
+    }
+}
+
+impl Gate for Meeting {
+    fn after_claim(&self, worker: u32, chunk: Option<u64>) {
+        let (mine, other) = if worker == 0 { (0, 1) } else { (1, 0) };
+        self.claims[mine].fetch_add(1, Ordering::SeqCst);
+        if chunk != Some(0) {
+            return;
+        }
+        for _ in 0..TURNS {
+            if self.claims[other].load(Ordering::SeqCst) > 0 {
+                self.met.fetch_add(1, Ordering::SeqCst);
+                return;
+            }
+        }
+        self.alone.fetch_add(1, Ordering::SeqCst);
+    }
+}
+
+// Whether both workers were at work at one time, and neither gave up waiting.
+fn have_met(gate: &Meeting) -> bool {
+    gate.alone.load(Ordering::SeqCst) == 0 && gate.met.load(Ordering::SeqCst) == 1
+}
+
+#[test]
+fn two_workers_meet(rt: HostRuntime) -> Result<(), Fail> {
+    let plan = Plan::new(2, 1).ok_or("in range")?;
+    let gate = nobody_yet();
+    let more = map_lifted(&rt, rt.alloc(), &plan, &gate, &[1, 2], &More)?;
+    assert!(rt; more.as_slice() == [2, 3].as_slice());
+    assert!(rt; have_met(&gate));
+    let gate = nobody_yet();
+    let placed = gather(&rt, rt.alloc(), &plan, &gate, &[5, 6, 7], &[2, 0, 2])?;
+    assert!(rt; placed.as_slice() == [7, 5, 7].as_slice());
+    assert!(rt; have_met(&gate));
+    let gate = nobody_yet();
+    let kept = compact(
+        &rt,
+        rt.alloc(),
+        &plan,
+        &gate,
+        &[5, 6, 7],
+        &[true, false, true],
+    )?;
+    assert!(rt; kept.as_slice() == [5, 7].as_slice());
+    assert!(rt; have_met(&gate));
+    Ok(())
+}
