@@ -1,16 +1,19 @@
 -- Items that are cut into chunks: what is made of a chunk, and of the chunks before it.
-use Rattle.std.proofs.Common.{◌≡◌, ℕ, zero, suc, ◌+◌, ◌-◌, ◌*◌, ◌%◌, ◌<◌, ◌≤◌, min, List, [], ◌∷◌, ◌++◌, length, get_or, take, drop, map, All, fold, Some, slice_get, sym, ap, ◌∙◌, subst, arith, add-one, suc-mul, mul-le-mul_right, div-add-mod', take-add}
-use Rattle.std.specs.List.{range_with_len, flat_map}
-use Rattle.std.proofs.lemmas.List.{length-take, length-drop, take-take, take_all}
+use Rattle.std.proofs.Common.{◌≡◌, ℕ, zero, suc, ◌+◌, ◌-◌, ◌*◌, ◌/◌, ◌%◌, ◌^◌, ◌<◌, ◌≤◌, min, max, List, [], ◌∷◌, ◌++◌, length, get_or, take, drop, map, All, fold, Some, slice_get, sym, ap, ◌∙◌, subst, arith, add-one, suc-mul, mul-le-mul_right, div-add-mod', take-add}
+use Rattle.std.proofs.Math.Nat.{mul_assoc}
+use mathlib.Core.Logic.{dite}
+use native.Mathlib.Decide.{dec_le}
+use Rattle.std.specs.List.{range_with_len}
+use Rattle.std.proofs.lemmas.List.{length-take, length-drop, take-take}
 use Rattle.std.proofs.lemmas.List.Elements.{All-take, All-drop}
 use Rattle.std.proofs.lemmas.List.Sums.{fold-append, fold_more}
 use Rattle.std.proofs.lemmas.List.FromFn.{length-map-range_with_len, map-range_with_len_more}
 use Rattle.chunk_seats.specs.Chunks.{chunk_of, chunk_count}
 use Rattle.word_monoid.specs.Monoid.{Ops, IsItem, IsMonoid}
 use Rattle.word_monoid.specs.Folds.{fold_of, prefix_of, prefixes_from}
-use Rattle.word_monoid.proofs.Folds.{get_below, get_at, all_at, fold_of-item, fold_append, prefix_next, range-append}
+use Rattle.word_monoid.proofs.Folds.{get_below, get_at, all_at, fold_of-item, fold_append, prefix_next}
 use Rattle.scan_lookback.specs.Cuts.{Lifts, GivesItems, sums_of, chunk_prefixes, running, Scans}
-use Rattle.scan_lookback.proofs.Lists.{get_take, take_get, get_drop, get_range, map_ranges, flat_map_more}
+use Rattle.scan_lookback.proofs.Lists.{get_take, take_get, get_drop, get_range, map_ranges}
 
 -- chunks of a size that isn't 0
 pub chunk_inside : (n size c : ℕ) → 0 < size → c < chunk_count size n → c * size < n
@@ -33,18 +36,55 @@ chunks_all n size pos =
     let less : r < size = omega arith in
     omega arith
 
+-- a place that begins a chunk lies in one of the chunks
+pub chunk_near : (n size c : ℕ) → 0 < size → c * size < n → c < chunk_count size n
+chunk_near n size c pos h =
+    let q : ℕ = chunk_count size n in
+    let all : n ≤ q * size = chunks_all n size pos in
+    dite (dec_le q c)
+    (λ le. let m : q * size ≤ c * size = mul-le-mul_right size le in let x : ℕ = q * size in let y : ℕ = c * size in let a : n ≤ x = all in let b : x ≤ y = m in let d : y < n = h in absurd (omega arith))
+    (λ over. omega arith)
+
+-- a piece of so many chunks has few items
+pub piece_small : (n size per : ℕ) → 0 < size → size ≤ 65536 → n < 2 ^ 62 → per ≤ max (chunk_count size n) 1 → per * size < 2 ^ 64
+piece_small n size per pos small short h =
+    let q : ℕ = chunk_count size n in
+    let d : q * size + (n + (size - 1)) % size ≡ n + (size - 1) = div-add-mod' (n + (size - 1)) size in
+    let le : per ≤ suc q = omega arith in
+    let m : per * size ≤ suc q * size = mul-le-mul_right size le in
+    let s : suc q * size ≡ q * size + size = suc-mul q size in
+    let x : ℕ = q * size in let y : ℕ = suc q * size in let z : ℕ = per * size in let r : ℕ = (n + (size - 1)) % size in
+    let d' : x + r ≡ n + (size - 1) = d in let m' : z ≤ y = m in let s' : y ≡ x + size = s in
+    omega arith
+
+-- where a piece begins, a chunk does
+pub piece_begins : (from per size : ℕ) → from % (per * size) ≡ 0 → from / (per * size) * per * size ≡ from
+piece_begins from per size h =
+    let q : ℕ = from / (per * size) in
+    let d : q * (per * size) + from % (per * size) ≡ from = div-add-mod' from (per * size) in
+    let x : ℕ = q * (per * size) in let r : ℕ = from % (per * size) in
+    let d' : x + r ≡ from = d in let h' : r ≡ 0 = h in
+    let e : x ≡ from = omega arith in
+    mul_assoc q per size ∙ e
+
+length-range : {X : Type 0} (a n : ℕ) (xs : List X) → length (take n (drop a xs)) ≡ min n (length xs - a)
+length-range a n xs = length-take n (drop a xs) ∙ ap (min n) (length-drop a xs)
+
 length-chunk : {X : Type 0} (size : ℕ) (xs : List X) (c : ℕ) → length (chunk_of size xs c) ≡ min size (length xs - c * size)
-length-chunk size xs c = length-take size (drop (c * size) xs) ∙ ap (min size) (length-drop (c * size) xs)
+length-chunk size xs c = length-range (c * size) size xs
 
 module _ {T I : Type 0} (post : T → I → Type 0) (items : List T) (lifted : List I) (lifts : Lifts post items lifted) where
-  pub lifts_chunk : (size c : ℕ) → Lifts post (chunk_of size items c) (chunk_of size lifted c)
-  lifts_chunk size c = record {
-    as_many = length-chunk size lifted c ∙ (ap (λ (n : ℕ). min size (n - c * size)) lifts.as_many ∙ sym (length-chunk size items c));
+  pub lifts_range : (a n : ℕ) → Lifts post (take n (drop a items)) (take n (drop a lifted))
+  lifts_range a n = record {
+    as_many = length-range a n lifted ∙ (ap (λ (l : ℕ). min n (l - a)) lifts.as_many ∙ sym (length-range a n items));
     each = λ i x r at gives.
-        let t = get_take size (drop (c * size) items) i x at in
-        let there : slice_get lifted (c * size + i) ≡ Some r = lifts.each (c * size + i) x r (sym (get_drop (c * size) items i) ∙ t.1) gives in
-        take_get size (drop (c * size) lifted) i r t.0 (get_drop (c * size) lifted i ∙ there);
+        let t = get_take n (drop a items) i x at in
+        let there : slice_get lifted (a + i) ≡ Some r = lifts.each (a + i) x r (sym (get_drop a items i) ∙ t.1) gives in
+        take_get n (drop a lifted) i r t.0 (get_drop a lifted i ∙ there);
   }
+
+  pub lifts_chunk : (size c : ℕ) → Lifts post (chunk_of size items c) (chunk_of size lifted c)
+  lifts_chunk size c = lifts_range (c * size) size
 
   pub gives_items : (ops : Ops I) → All (IsItem ops) lifted → GivesItems post ops items
   gives_items ops all i x r at gives = all_at (IsItem ops) lifted i r all (lifts.each i x r at gives)
@@ -56,9 +96,6 @@ module _ {T I : Type 0} (post : T → I → Type 0) (items : List T) (lifted : L
       is ∙ (ap (λ (s : I). ops.join s r) so_far ∙ sym (fold_more ops.join a lifted i r (get_below lifted i r there) ∙ ap (ops.join (fold ops.join a (take i lifted))) (get_at lifted i r there)))
 
   -- and at the end of it
-  pub lifted_all : (ops : Ops I) (a sum : I) (i : ℕ) → i ≡ length items → sum ≡ fold ops.join a (take i lifted) → sum ≡ fold ops.join a lifted
-  lifted_all ops a sum i end is = is ∙ ap (fold ops.join a) (ap (λ (n : ℕ). take n lifted) (end ∙ sym lifts.as_many) ∙ take_all (length lifted) lifted (omega arith))
-
   pub listed_all : (ops : Ops I) (a : I) (list : List I) (i : ℕ) → i ≡ length items → list ≡ map (λ k. fold ops.join a (take k lifted)) (range_with_len 0 i) → list ≡ running ops a lifted
   listed_all ops a list i end is = is ∙ ap (λ (n : ℕ). map (λ k. fold ops.join a (take k lifted)) (range_with_len 0 n)) (end ∙ sym lifts.as_many)
 
@@ -68,6 +105,21 @@ pub listed_more : {I : Type 0} (ops : Ops I) (a : I) (lifted : List I) (i : ℕ)
 listed_more {I} ops a lifted i list more sum so_far is added =
     let before : ℕ → I = λ k. fold ops.join a (take k lifted) in
     added ∙ (ap (λ (l : List I). l ++ sum ∷ []) so_far ∙ (ap (λ (x : I). map before (range_with_len 0 i) ++ x ∷ []) is ∙ sym (map-range_with_len_more before 0 i i (omega arith))))
+
+module _ {I : Type 0} (ops : Ops I) (items : List I) where
+  fold_on : (a k : ℕ) → fold ops.join (prefix_of ops items a) (take k (drop a items)) ≡ prefix_of ops items (a + k)
+  fold_on a k = sym (ap (fold_of ops) (take-add a k items) ∙ fold-append ops.join ops.unit (take a items) (take k (drop a items)))
+
+  -- a loop over some of the items, from the place a on, makes their prefixes
+  runs_from : (a n : ℕ) (start : I) → start ≡ prefix_of ops items a → (list : List I) → list ≡ running ops start (take n (drop a items)) → list ≡ prefixes_from ops items a (length (take n (drop a items)))
+  runs_from a n start is list made =
+      made ∙ map_ranges (λ (k : ℕ). fold ops.join start (take k (take n (drop a items)))) (prefix_of ops items) 0 a (length (take n (drop a items)))
+      (λ k h.
+      let short : k ≤ n = omega (arith, length-range a n items) in
+      let z : 0 + k ≡ k = omega arith in
+      ap (λ (m : ℕ). fold ops.join start (take m (take n (drop a items)))) z
+      ∙ (ap (fold ops.join start) (take-take k n (drop a items) short)
+      ∙ (ap (λ (x : I). fold ops.join x (take k (drop a items))) is ∙ fold_on a k)))
 
 module _ {I : Type 0} (ops : Ops I) (laws : IsMonoid ops) (size : ℕ) (pos : 0 < size) (items : List I) (ok : All (IsItem ops) items) where
   abbrev count : ℕ
@@ -111,55 +163,13 @@ module _ {I : Type 0} (ops : Ops I) (laws : IsMonoid ops) (size : ℕ) (pos : 0 
       ∙ (ap (λ (x : I). ops.join x (fold_of ops (chunk_of size items c))) (chunk_before c (omega arith))
       ∙ (sym (prefix_join (c * size) size) ∙ ap (prefix_of ops items) n)))
 
-  fold_on : (a k : ℕ) → fold ops.join (prefix_of ops items a) (take k (drop a items)) ≡ prefix_of ops items (a + k)
-  fold_on a k = sym (ap (fold_of ops) (take-add a k items) ∙ fold-append ops.join ops.unit (take a items) (take k (drop a items)))
-
   module _ (c : ℕ) (near : c < length sums) (start : I) (is : start ≡ prefix_of ops sums c) where
     from_here : start ≡ prefix_of ops items (c * size)
     from_here = is ∙ chunk_before c (omega (arith, length-sums))
 
     -- a loop over the chunk's items makes its prefixes
     pub runs_list : (list : List I) → list ≡ running ops start (chunk_of size items c) → list ≡ chunk_prefixes ops size items c
-    runs_list list made =
-        made ∙ map_ranges (λ (k : ℕ). fold ops.join start (take k (chunk_of size items c))) (prefix_of ops items) 0 (c * size) (length (chunk_of size items c))
-        (λ k h.
-        let short : k ≤ size = omega (arith, length-chunk size items c) in
-        let z : 0 + k ≡ k = omega arith in
-        ap (λ (m : ℕ). fold ops.join start (take m (chunk_of size items c))) z
-        ∙ (ap (fold ops.join start) (take-take k size (drop (c * size) items) short)
-        ∙ (ap (λ (x : I). fold ops.join x (take k (drop (c * size) items))) from_here ∙ fold_on (c * size) k)))
-
-    -- and ends at the prefix of the chunk
-    pub runs_last : (last : I) → last ≡ fold ops.join start (chunk_of size items c) → last ≡ prefix_of ops sums (c + 1)
-    runs_last last made =
-        let n : c * size + size ≡ suc c * size = sym (suc-mul c size) in
-        made
-        ∙ (ap (λ (x : I). fold ops.join x (chunk_of size items c)) from_here
-        ∙ (fold_on (c * size) size ∙ (ap (prefix_of ops items) n ∙ (sym (chunk_before (suc c) (omega (arith, length-sums))) ∙ ap (prefix_of ops sums) (sym (add-one c))))))
-
-  -- the chunks' prefixes one behind the other are the prefixes of all items
-  flat_chunks : (c : ℕ) → c ≤ count → flat_map (chunk_prefixes ops size items) (range_with_len 0 c) ≡ prefixes_from ops items 0 (min (c * size) (length items))
-  flat_chunks zero h = let n : 0 ≡ min (0 * size) (length items) = omega arith in ap (prefixes_from ops items 0) n
-  flat_chunks (suc c) h =
-      let inside : c * size < length items = chunk_inside (length items) size c pos (omega arith) in
-      let long : ℕ = length (chunk_of size items c) in
-      let m : min (c * size) (length items) ≡ c * size = omega arith in
-      let z : 0 + c ≡ c = omega arith in
-      let y : c * size ≡ 0 + c * size = omega arith in
-      let step : suc c * size ≡ c * size + size = suc-mul c size in
-      let n : c * size + long ≡ min (suc c * size) (length items) = omega (arith, length-chunk size items c) in
-      ap (λ (k : ℕ). flat_map (chunk_prefixes ops size items) (range_with_len 0 k)) (sym (add-one c))
-      ∙ (flat_map_more (chunk_prefixes ops size items) 0 c
-      ∙ (ap (λ (l : List I). l ++ chunk_prefixes ops size items (0 + c)) (flat_chunks c (omega arith) ∙ ap (prefixes_from ops items 0) m)
-      ∙ (ap (λ (k : ℕ). prefixes_from ops items 0 (c * size) ++ chunk_prefixes ops size items k) z
-      ∙ (ap (λ (k : ℕ). prefixes_from ops items 0 (c * size) ++ prefixes_from ops items k long) y
-      ∙ (range-append (prefix_of ops items) 0 (c * size) long ∙ ap (prefixes_from ops items 0) n)))))
-
-  pub all_chunks : flat_map (chunk_prefixes ops size items) (range_with_len 0 count) ≡ prefixes_from ops items 0 (length items)
-  all_chunks =
-      let all : length items ≤ count * size = chunks_all (length items) size pos in
-      let n : min (count * size) (length items) ≡ length items = omega arith in
-      flat_chunks count (omega arith) ∙ ap (prefixes_from ops items 0) n
+    runs_list list made = runs_from ops items (c * size) size start from_here list made
 
 -- the same of a scan that is named
 module _ {T I : Type 0} (ops : Ops I) (post : T → I → Type 0) (size : ℕ) (items : List T) (lifted sums : List I) (scans : Scans ops post size items lifted sums) where
@@ -191,9 +201,27 @@ module _ {T I : Type 0} (ops : Ops I) (post : T → I → Type 0) (size : ℕ) (
     pub list_of_chunk : (list : List I) → ((ys : List I) → Lifts post part ys → list ≡ running ops start ys) → list ≡ chunk_prefixes ops size lifted c
     list_of_chunk list runs = runs_list ops laws size pos lifted scans.accepted c near_here start starts_here list (runs (chunk_of size lifted c) (lifts_part c part part_is))
 
-    pub last_of_chunk : (last : I) → ((ys : List I) → Lifts post part ys → last ≡ fold ops.join start ys) → last ≡ prefix_of ops sums (c + 1)
-    last_of_chunk last runs =
-        runs_last ops laws size pos lifted scans.accepted c near_here start starts_here last (runs (chunk_of size lifted c) (lifts_part c part part_is)) ∙ ap (λ (l : List I). prefix_of ops l (c + 1)) (sym scans.cut)
+  -- a piece of the items that begins where a chunk does
+  module _ (laws : IsMonoid ops) (pos : 0 < size) (c a n : ℕ) (begins : c * size ≡ a) (inside : a + n ≤ length items) (some : 0 < n) where
+    pub piece_near : c < length sums
+    piece_near =
+        let z : ℕ = c * size in let b : z ≡ a = begins in let less : z < length lifted = omega (arith, scans.lifts.as_many) in
+        subst (λ (k : ℕ). c < k) (sym count_is) (chunk_near (length lifted) size c pos less)
+
+    pub piece_starts : prefix_of ops sums c ≡ prefix_of ops lifted a
+    piece_starts =
+        ap (λ (l : List I). prefix_of ops l c) scans.cut
+        ∙ (chunk_before ops laws size pos lifted scans.accepted c (let near = piece_near in let is = count_is in omega arith) ∙ ap (prefix_of ops lifted) begins)
+
+    pub piece_gives : (part : List T) → part ≡ take n (drop a items) → GivesItems post ops part
+    piece_gives part is = subst (GivesItems post ops) (sym is)
+        (gives_items post (take n (drop a items)) (take n (drop a lifted)) (lifts_range post items lifted scans.lifts a n) ops (All-take (IsItem ops) n (drop a lifted) (All-drop (IsItem ops) a lifted scans.accepted)))
+
+    pub piece_filled : (part : List T) → part ≡ take n (drop a items) → (start : I) → start ≡ prefix_of ops sums c → (out : List I) → ((ys : List I) → Lifts post part ys → out ≡ running ops start ys) → out ≡ prefixes_from ops lifted a n
+    piece_filled part is start start_is out runs =
+        let long : length (take n (drop a lifted)) ≡ n = omega (arith, length-range a n lifted, scans.lifts.as_many) in
+        let lifts : Lifts post part (take n (drop a lifted)) = subst (λ (l : List T). Lifts post l (take n (drop a lifted))) (sym is) (lifts_range post items lifted scans.lifts a n) in
+        runs_from ops lifted a n start (start_is ∙ piece_starts) out (runs (take n (drop a lifted)) lifts) ∙ ap (prefixes_from ops lifted a) long
 
 -- the same scan, where the monoid has another name
 pub scans_as : {M T I : Type 0} (ops : M → Ops I) (post : T → I → Type 0) (size : ℕ) (items : List T) (lifted sums : List I) (k m : M) → k ≡ m → Scans (ops m) post size items lifted sums → Scans (ops k) post size items lifted sums

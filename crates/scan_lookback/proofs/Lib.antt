@@ -6,6 +6,7 @@ pub mod Cutting
 pub mod Working
 pub mod Placing
 pub mod Assembling
+pub mod Filling
 pub mod Naming
 pub mod Totals
 pub mod Rows

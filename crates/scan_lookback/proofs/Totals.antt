@@ -1,15 +1,15 @@
 -- The end of a scan: the join of all items, and the whole list.
-use Rattle.std.proofs.Common.{◌≡◌, ℕ, suc, ◌+◌, ◌<◌, List, [], ◌∷◌, ◌++◌, length, get_or, All, Some, slice_get, sym, ap, ◌∙◌, subst, arith, add-one, Vec, Global}
-use Rattle.std.specs.List.{range_with_len, flat_map}
+use Rattle.std.proofs.Common.{◌≡◌, ℕ, suc, ◌+◌, List, [], ◌∷◌, ◌++◌, length, get_or, take, All, Some, slice_get, sym, ap, ◌∙◌, subst, arith, add-one}
 use Rattle.std.proofs.lemmas.List.{take_all}
+use Rattle.std.proofs.Math.Seq.{take-append_seam}
 use Rattle.std.proofs.lemmas.List.FromFn.{length-map-range_with_len, get_or-map-range_with_len, map-range_with_len_more}
 use Rattle.chunk_seats.specs.Chunks.{chunk_count}
 use Rattle.word_monoid.specs.Monoid.{Ops, IsItem, IsMonoid}
 use Rattle.word_monoid.specs.Folds.{fold_of, prefix_of, prefixes_from, prefixes}
 use Rattle.word_monoid.proofs.Folds.{all_at, prefix_item, prefix_next}
-use Rattle.scan_lookback.specs.Cuts.{Scans, chunk_prefixes}
-use Rattle.scan_lookback.proofs.Cutting.{all_chunks, count_is}
-use Rattle.scan_lookback.proofs.Working.{Answered}
+use Rattle.scan_lookback.specs.Cuts.{Scans}
+use Rattle.scan_lookback.proofs.Cutting.{count_is}
+use Rattle.scan_lookback.proofs.Working.{StartsAt}
 
 module _ {T I : Type 0} (ops : Ops I) (laws : IsMonoid ops) (post : T → I → Type 0) (size : ℕ) (items : List T) (lifted sums : List I) (scans : Scans ops post size items lifted sums) where
   pub length-out : (out : List I) → out ≡ prefixes_from ops lifted 0 (length lifted) → length out ≡ length items
@@ -34,12 +34,6 @@ module _ {T I : Type 0} (ops : Ops I) (laws : IsMonoid ops) (post : T → I → 
   pub count_named : (count : ℕ) → count ≡ chunk_count size (length items) → count ≡ length sums
   count_named count is = is ∙ (ap (chunk_count size) (sym scans.lifts.as_many) ∙ sym (count_is ops post size items lifted sums scans))
 
-  pub out_is : 0 < size → (count : ℕ) → count ≡ chunk_count size (length items) → (out : List I) → out ≡ flat_map (chunk_prefixes ops size lifted) (range_with_len 0 count) → out ≡ prefixes_from ops lifted 0 (length lifted)
-  out_is pos count is out made =
-      made
-      ∙ (ap (λ (n : ℕ). flat_map (chunk_prefixes ops size lifted) (range_with_len 0 n)) (is ∙ ap (chunk_count size) (sym scans.lifts.as_many))
-      ∙ all_chunks ops laws size pos lifted scans.accepted)
-
   pub whole : (out all : List I) (last : I) → out ≡ prefixes_from ops lifted 0 (length lifted) → last ≡ fold_of ops lifted → all ≡ out ++ last ∷ [] → all ≡ prefixes ops lifted
   whole out all last is total added =
       added
@@ -47,6 +41,10 @@ module _ {T I : Type 0} (ops : Ops I) (laws : IsMonoid ops) (post : T → I → 
       ∙ (ap (λ (x : I). prefixes_from ops lifted 0 (length lifted) ++ x ∷ []) (total ∙ sym all_of)
       ∙ (sym (map-range_with_len_more (prefix_of ops lifted) 0 (length lifted) (length lifted) (omega arith)) ∙ ap (prefixes_from ops lifted 0) (add-one (length lifted)))))
 
--- the answers, where the board names the monoid
-pub answers_as : {M I : Type 0} (ops : M → Ops I) (items : List I) (size : ℕ) (k m : M) → k ≡ m → (all : List (ℕ × Vec I Global)) → All (Answered (ops k) items size) all → All (Answered (ops m) items size) all
-answers_as {M} {I} ops items size k m e all = subst (λ (n : M). All (Answered (ops n) items size) all) e
+-- a list at the front of another
+pub take_front : {X : Type 0} (n : ℕ) (xs ys : List X) → length xs ≡ n → take n (xs ++ ys) ≡ xs
+take_front n xs ys is = ap (λ (m : ℕ). take m (xs ++ ys)) (sym is) ∙ take-append_seam xs ys
+
+-- the starts, where the board names the monoid
+pub starts_as : {M I : Type 0} (ops : M → Ops I) (sums : List I) (k m : M) → k ≡ m → (all : List (ℕ × I)) → All (StartsAt (ops k) sums) all → All (StartsAt (ops m) sums) all
+starts_as {M} {I} ops sums k m e all = subst (λ (n : M). All (StartsAt (ops n) sums) all) e

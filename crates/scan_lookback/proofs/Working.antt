@@ -7,19 +7,17 @@ use mathlib.Core.Logic.{dite}
 use native.Mathlib.Decide.{ℕ_discrete}
 use Rattle.chunk_seats.specs.Tallies.{times, one}
 use Rattle.chunk_seats.specs.declared.views.ClaimView.{ClaimView}
-use Rattle.chunk_seats.specs.Claims.{claiming, finishing, joining, shares}
+use Rattle.chunk_seats.specs.Claims.{claiming, finishing}
 use Rattle.chunk_seats.proofs.Totals.{times_snoc, one_same, one_other, one_le}
 use Rattle.scan_lookback.specs.declared.views.LookView.{LookView}
-use Rattle.std.specs.Prelude.{All}
-use Rattle.std.proofs.lemmas.List.Elements.{All-append, All-push}
+use Rattle.std.specs.Prelude.{All, IfOk}
+use Rattle.std.proofs.lemmas.List.Elements.{All-push}
 use Rattle.std.proofs.Common.{Vec, Global}
 use Rattle.word_monoid.specs.Monoid.{Ops}
+use Rattle.word_monoid.specs.Folds.{prefix_of}
 use Rattle.scan_lookback.specs.Cuts.{chunk_prefixes}
 use Rattle.scan_lookback.specs.Views.{looks}
 use Rattle.scan_lookback.specs.Worked.{Even, Tidy}
-use Rattle.atomic_table.specs.Seated.{TableId}
-use Rattle.scan_lookback.specs.declared.made.Made.{Made}
-use Rattle.scan_lookback.specs.Made.{Makes}
 
 once_more : (n c : ℕ) (xs : List ℕ) → times n xs ≤ 1 → times c xs ≡ 0 → times n xs + one n c ≤ 1
 once_more n c xs once none = dite (ℕ_discrete n c)
@@ -34,13 +32,6 @@ module _ (v : ClaimView) (w : LookView) (c : ℕ) (looked : List (ℕ × ℕ)) (
     done = λ n. omega (arith, times_snoc n v.claimed c, times_snoc n v.done c, even.done n);
     shown = λ n. omega (arith, times_snoc n v.claimed c, times_snoc n w.shown c, even.shown n);
     sealed = λ n. omega (arith, times_snoc n v.claimed c, times_snoc n w.sealed c, even.sealed n);
-  }
-
-  pub tidy_shown : Tidy (claiming v c) (looks (w.shown ++ c ∷ []) w.sealed looked w.share)
-  tidy_shown = record {
-    once = λ n. omega (arith, times_snoc n w.shown c, even.shown n, once_more n c v.claimed (even.once n) fresh);
-    done = λ n. omega (arith, even.done n, even.sealed n);
-    shown = λ n. omega (arith, times_snoc n v.claimed c, times_snoc n w.shown c, even.shown n);
   }
 
   pub tidy_sealed : Tidy (claiming v c) (looks (w.shown ++ c ∷ []) (w.sealed ++ c ∷ []) looked w.share)
@@ -77,15 +68,11 @@ stands_last c xs ys is = omega (arith, ap (times c) is, times_snoc c xs c, one_s
 abbrev pub Answered : {T : Type 0} → Ops T → List T → ℕ → ℕ × Vec T Global → Type 0
 Answered ops items size p = p.1.items ≡ chunk_prefixes ops size items p.0
 
--- two groups of workers are one
-pub makes_join : {T : Type 0} (ops : Ops T) (items : List T) (size : ℕ) (board claims_board : TableId) (m n w : ℕ) (a b r : Made T) → m + n ≡ w → Makes ops items size board claims_board m a → Makes ops items size board claims_board n b
-    → r.seat.board ≡ a.seat.board → r.mine.board ≡ a.mine.board → r.mine.view ≡ joining a.mine.view b.mine.view → r.all.items ≡ a.all.items ++ b.all.items
-    → Makes ops items size board claims_board w r
-makes_join ops items size board claims_board m n w a b r sum ma mb seat_is mine_is view_is items_is = record {
-  board_is = seat_is ∙ ma.board_is;
-  claims_is = mine_is ∙ ma.claims_is;
-  weight = ap (λ (v : ClaimView). v.weight) view_is ∙ (omega (arith, ma.weight, mb.weight));
-  spent = ap (λ (v : ClaimView). v.share) view_is ∙ ap (λ (s : ℕ). shares s b.mine.view.share) ma.spent;
-  drawn = ap (λ (v : ClaimView). v.claimed) view_is ∙ (ap (λ (l : List ℕ). l ++ b.mine.view.claimed) ma.drawn ∙ (ap (λ (l : List ℕ). map (λ p. p.0) a.all.items ++ l) mb.drawn ∙ (sym (map-append (λ p. p.0) a.all.items b.all.items) ∙ sym (ap (map (λ p. p.0)) items_is))));
-  lists = subst (All (Answered ops items size)) (sym items_is) (All-append (Answered ops items size) a.all.items b.all.items ma.lists mb.lists);
-}
+-- a start is the join of the sums before its chunk
+abbrev pub StartsAt : {T : Type 0} → Ops T → List T → ℕ × T → Type 0
+StartsAt ops sums p = p.1 ≡ prefix_of ops sums p.0
+
+-- what follows of a value follows of the answer that has it
+pub if_ok : {T E : Type 0} (P Q : T → Type 0) (r : Result T E) → IfOk r P → ((x : T) → P x → Q x) → IfOk r Q
+if_ok P Q (Ok x) p so = so x p
+if_ok P Q (Err e) p so = tt

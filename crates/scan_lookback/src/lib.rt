@@ -5,12 +5,14 @@
 mod back;
 mod board;
 mod chunk;
+mod fill;
 mod look;
 mod made;
 mod place;
 mod run;
 mod single_pass;
 mod span;
+mod starts;
 mod steps;
 mod views;
 mod words;

@@ -1,5 +1,5 @@
 //! The workers of a scan.
-ghost use Rattle.std.specs.Prelude.{◌≡◌, ◌+◌, ◌≤◌, IfOk};
+ghost use Rattle.std.specs.Prelude.{◌≡◌, ◌+◌, ◌<◌, ◌≤◌, ◌^◌, length, IfOk};
 ghost use Rattle.std.specs.Thread.{IsSync};
 ghost use Rattle.chunk_seats.specs.Claims.{fresh};
 ghost use Rattle.scan_lookback.specs.Views.{blank};
@@ -7,7 +7,8 @@ ghost use Rattle.scan_lookback.specs.Cuts.{Scans};
 ghost use Rattle.scan_lookback.specs.Made.{Makes};
 
 use crate::board::{ScanBoard, Seat};
-use crate::made::Made;
+use crate::fill::blank_list;
+use crate::made::{Begun, Made};
 use crate::views::Chunks;
 use chunk_seats::{ClaimBoard, Gate, Plan};
 use std::alloc::{AllocError, Global};
@@ -18,31 +19,30 @@ use word_monoid::WordMonoid;
 fn merge<'a, M: WordMonoid, N: Chunks<M::Item>>(
     board: &ScanBoard<'a, M, N>,
     claims: &ClaimBoard,
-    size: u32,
     rest: u32,
     half: u32,
     one: Made<M::Item>,
     two: Made<M::Item>,
 ) -> Result<Made<M::Item>, AllocError>
-    requires one { Makes (M.ops board.now.monoid) N.items size board.now.board claims.now.board rest one }
-    requires two { Makes (M.ops board.now.monoid) N.items size board.now.board claims.now.board half two }
-    ensures { IfOk result (λ r. Makes (M.ops board.now.monoid) N.items size board.now.board claims.now.board (rest + half) r) }
+    requires one { Makes (M.ops board.now.monoid) N.sums board.now.board claims.now.board rest one }
+    requires two { Makes (M.ops board.now.monoid) N.sums board.now.board claims.now.board half two }
+    ensures { IfOk result (λ r. Makes (M.ops board.now.monoid) N.sums board.now.board claims.now.board (rest + half) r) }
 {
-    let _ = (size, rest, half);
+    let _ = (rest, half);
     let Made {
         mut seat,
         mut mine,
-        mut all,
+        mut starts,
     } = one;
     let Made {
         seat: other,
         mine: theirs,
-        all: mut more,
+        starts: mut more,
     } = two;
     board.join(&mut seat, other);
     claims.join(&mut mine, theirs);
-    all.append(&mut more)?;
-    Ok(Made { seat, mine, all })
+    starts.append(&mut more)?;
+    Ok(Made { seat, mine, starts })
 }
 
 // That many workers, each in a thread of its own where threads can be made.
@@ -73,13 +73,13 @@ pub(crate) fn run<
     requires workers { (1 ≤ workers) × (first + workers ≤ 64) }
     requires callable { F.IsAlwaysCallable lift.now }
     requires scans { Scans (M.ops board.now.monoid) (F.post lift.now) plan.now.chunk items.now N.items N.sums }
-    ensures { IfOk result (λ r. Makes (M.ops board.now.monoid) N.items plan.now.chunk board.now.board claims.now.board workers r) }
+    ensures { IfOk result (λ r. Makes (M.ops board.now.monoid) N.sums board.now.board claims.now.board workers r) }
 {
     if workers == 1 {
-        let all = board.work(
+        let starts = board.work_starts(
             alloc, &mut seat, claims, &mut mine, plan, gate, first, items, lift,
         )?;
-        return Ok(Made { seat, mine, all });
+        return Ok(Made { seat, mine, starts });
     }
     let half = workers / 2;
     let rest = workers - half;
@@ -90,7 +90,7 @@ pub(crate) fn run<
         rt,
         move || -> Result<Made<M::Item>, AllocError>
             requires { IsSync R.row × (seat.board ≡ board.now.board) × (mine.board ≡ claims.now.board) × (claims.now.chunks ≡ board.now.chunks) × (seat.view ≡ blank rest) × (mine.view ≡ fresh rest) × (1 ≤ rest) × (first + rest ≤ 64) × F.IsAlwaysCallable lift.now × Scans (M.ops board.now.monoid) (F.post lift.now) plan.now.chunk items.now N.items N.sums }
-            ensures { IfOk result (λ r. Makes (M.ops board.entry.now.monoid) N.items plan.entry.now.chunk board.entry.now.board claims.entry.now.board rest r) }
+            ensures { IfOk result (λ r. Makes (M.ops board.entry.now.monoid) N.sums board.entry.now.board claims.entry.now.board rest r) }
         {
             run(
                 rt, alloc, board, claims, seat, mine, plan, gate, first, rest, items, lift,
@@ -98,12 +98,105 @@ pub(crate) fn run<
         },
         move || -> Result<Made<M::Item>, AllocError>
             requires { IsSync R.row × (other.board ≡ board.now.board) × (theirs.board ≡ claims.now.board) × (claims.now.chunks ≡ board.now.chunks) × (other.view ≡ blank half) × (theirs.view ≡ fresh half) × (1 ≤ half) × (after + half ≤ 64) × F.IsAlwaysCallable lift.now × Scans (M.ops board.now.monoid) (F.post lift.now) plan.now.chunk items.now N.items N.sums }
-            ensures { IfOk result (λ r. Makes (M.ops board.entry.now.monoid) N.items plan.entry.now.chunk board.entry.now.board claims.entry.now.board half r) }
+            ensures { IfOk result (λ r. Makes (M.ops board.entry.now.monoid) N.sums board.entry.now.board claims.entry.now.board half r) }
         {
             run(
                 rt, alloc, board, claims, other, theirs, plan, gate, after, half, items, lift,
             )
         },
     );
-    merge(board, claims, plan.chunk, rest, half, one?, two?)
+    merge(board, claims, rest, half, one?, two?)
+}
+
+// One worker, and a list for the answer, which it makes before.
+fn first_worker<
+    'a,
+    T: Copy + Sync,
+    M: WordMonoid<Item: Send + Sync> + Sync,
+    N: Chunks<M::Item> + Send + Sync,
+    F: Fn(T) -> M::Item + Sync,
+    G: Gate,
+>(
+    alloc: Global,
+    board: &ScanBoard<'a, M, N>,
+    claims: &ClaimBoard,
+    mut seat: Seat,
+    mut mine: chunk_seats::Seat,
+    plan: &Plan,
+    gate: &G,
+    items: &[T],
+    lift: &F,
+) -> Result<Begun<M::Item>, AllocError>
+    requires boards { (seat.board ≡ board.now.board) × (mine.board ≡ claims.now.board) × (claims.now.chunks ≡ board.now.chunks) }
+    requires new { (seat.view ≡ blank 1) × (mine.view ≡ fresh 1) }
+    requires callable { F.IsAlwaysCallable lift.now }
+    requires len { length items.now < 2 ^ 62 }
+    requires scans { Scans (M.ops board.now.monoid) (F.post lift.now) plan.now.chunk items.now N.items N.sums }
+    ensures made { IfOk result (λ r. Makes (M.ops board.now.monoid) N.sums board.now.board claims.now.board 1 r.made) }
+    ensures list { IfOk result (λ r. length r.list.items ≡ length items.now) }
+{
+    let list = blank_list(alloc, board.monoid().unit(), items.len())?;
+    let starts = board.work_starts(
+        alloc, &mut seat, claims, &mut mine, plan, gate, 0, items, lift,
+    )?;
+    let made = Made { seat, mine, starts };
+    Ok(Begun { made, list })
+}
+
+// All workers, of which the first makes the list for the answer, before it draws, while the others draw.
+pub(crate) fn begin<
+    'a,
+    T: Copy + Sync,
+    M: WordMonoid<Item: Send + Sync> + Sync,
+    N: Chunks<M::Item> + Send + Sync,
+    F: Fn(T) -> M::Item + Sync,
+    G: Gate,
+    R: Threads + Sync,
+>(
+    rt: &R,
+    alloc: Global,
+    board: &ScanBoard<'a, M, N>,
+    claims: &ClaimBoard,
+    mut seat: Seat,
+    mut mine: chunk_seats::Seat,
+    plan: &Plan,
+    gate: &G,
+    workers: u32,
+    items: &[T],
+    lift: &F,
+) -> Result<Begun<M::Item>, AllocError>
+    requires boards { (seat.board ≡ board.now.board) × (mine.board ≡ claims.now.board) × (claims.now.chunks ≡ board.now.chunks) }
+    requires new { (seat.view ≡ blank workers) × (mine.view ≡ fresh workers) }
+    requires workers { (1 ≤ workers) × (workers ≤ 64) }
+    requires callable { F.IsAlwaysCallable lift.now }
+    requires len { length items.now < 2 ^ 62 }
+    requires scans { Scans (M.ops board.now.monoid) (F.post lift.now) plan.now.chunk items.now N.items N.sums }
+    ensures made { IfOk result (λ r. Makes (M.ops board.now.monoid) N.sums board.now.board claims.now.board workers r.made) }
+    ensures list { IfOk result (λ r. length r.list.items ≡ length items.now) }
+{
+    if workers == 1 {
+        return first_worker(alloc, board, claims, seat, mine, plan, gate, items, lift);
+    }
+    let rest = workers - 1;
+    let other = board.split(&mut seat, rest);
+    let theirs = claims.split(&mut mine, rest);
+    let (one, two) = join(
+        rt,
+        move || -> Result<Begun<M::Item>, AllocError>
+            requires { (seat.board ≡ board.now.board) × (mine.board ≡ claims.now.board) × (claims.now.chunks ≡ board.now.chunks) × (seat.view ≡ blank 1) × (mine.view ≡ fresh 1) × F.IsAlwaysCallable lift.now × (length items.now < 2 ^ 62) × Scans (M.ops board.now.monoid) (F.post lift.now) plan.now.chunk items.now N.items N.sums }
+            ensures made { IfOk result (λ r. Makes (M.ops board.entry.now.monoid) N.sums board.entry.now.board claims.entry.now.board 1 r.made) }
+            ensures list { IfOk result (λ r. length r.list.items ≡ length items.entry.now) }
+        { first_worker(alloc, board, claims, seat, mine, plan, gate, items, lift) },
+        move || -> Result<Made<M::Item>, AllocError>
+            requires { IsSync R.row × (other.board ≡ board.now.board) × (theirs.board ≡ claims.now.board) × (claims.now.chunks ≡ board.now.chunks) × (other.view ≡ blank rest) × (theirs.view ≡ fresh rest) × (1 ≤ rest) × (1 + rest ≤ 64) × F.IsAlwaysCallable lift.now × Scans (M.ops board.now.monoid) (F.post lift.now) plan.now.chunk items.now N.items N.sums }
+            ensures { IfOk result (λ r. Makes (M.ops board.entry.now.monoid) N.sums board.entry.now.board claims.entry.now.board rest r) }
+        {
+            run(
+                rt, alloc, board, claims, other, theirs, plan, gate, 1, rest, items, lift,
+            )
+        },
+    );
+    let Begun { made, list } = one?;
+    let made = merge(board, claims, 1, rest, made, two?)?;
+    Ok(Begun { made, list })
 }

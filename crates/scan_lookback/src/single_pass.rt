@@ -1,5 +1,5 @@
 //! The scan.
-ghost use Rattle.std.specs.Prelude.{◌≡◌, ◌<◌, ◌≤◌, ◌^◌, map, length, IfOk, All};
+ghost use Rattle.std.specs.Prelude.{◌≡◌, ◌<◌, ◌≤◌, ◌^◌, max, map, length, IfOk, All};
 ghost use Rattle.chunk_seats.specs.Chunks.{chunk_count};
 ghost use Rattle.word_monoid.specs.Monoid.{IsItem, IsMonoid};
 ghost use Rattle.word_monoid.specs.Folds.{fold_of, prefixes, prefixes_from};
@@ -7,9 +7,10 @@ ghost use Rattle.scan_lookback.specs.Named.{Names};
 ghost use Rattle.scan_lookback.specs.Cuts.{Scans};
 
 use crate::board::ScanBoard;
-use crate::made::Made;
-use crate::place::assemble;
-use crate::run::run;
+use crate::fill::fill;
+use crate::made::{Begun, Made};
+use crate::place::in_order;
+use crate::run::begin;
 use crate::views::{Chunks, Lift, Lifted};
 use chunk_seats::{ClaimBoard, Gate, Plan};
 use std::alloc::{AllocError, Global};
@@ -55,6 +56,15 @@ fn count_chunks(len: usize, size: u32) -> usize
     (len + (size as usize - 1)) / size as usize
 }
 
+// How many chunks of the list each worker fills.
+fn chunks_each(count: usize, workers: u32) -> usize
+    requires { 0 < workers }
+    ensures some { 0 < result }
+    ensures small { result ≤ max count 1 }
+{
+    count.div_ceil(workers as usize).max(1)
+}
+
 // The scan, where the run's lists have names.
 fn scan_named<
     T: Copy + Sync,
@@ -83,13 +93,25 @@ fn scan_named<
     let workers = (plan.workers as usize).min(count.max(1)) as u32;
     let (claims, mine) = ClaimBoard::new(alloc, count as u64, workers)?;
     let (board, seat) = ScanBoard::<M, N>::new(alloc, monoid, count as u64, workers)?;
-    let made = run(
-        rt, alloc, &board, &claims, seat, mine, plan, gate, 0, workers, items, lift,
+    let Begun { made, list } = begin(
+        rt, alloc, &board, &claims, seat, mine, plan, gate, workers, items, lift,
     )?;
-    let Made { seat, mine, all } = made;
+    let Made { seat, mine, starts } = made;
     board.close(seat);
     claims.close(mine);
-    let mut out = assemble(alloc, count, items.len() + 1, all)?;
+    let starts = in_order(alloc, count, starts)?;
+    let per = chunks_each(count, workers);
+    let mut out = list;
+    fill::<T, M, N, F, R>(
+        rt,
+        monoid,
+        items,
+        lift,
+        plan.chunk,
+        per,
+        starts.as_slice(),
+        out.as_mut_slice(),
+    );
     let last = total::<T, M, N, F>(monoid, items, lift, plan.chunk, out.as_slice());
     out.push(last)?;
     Ok(out)
@@ -97,6 +119,8 @@ fn scan_named<
 
 /// The join of what is made of the items before each item, and then the join of all: one more than there are items. It is the same
 /// for every plan and gate. The only refusal is that memory is out.
+///
+/// Workers draw chunks and find the join before each, as `work` does. Then each fills a part of the list, in place.
 pub fn scan_lifted<
     T: Copy + Sync,
     M: WordMonoid<Item: Send + Sync> + Sync,

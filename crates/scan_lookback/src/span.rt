@@ -24,19 +24,18 @@ pub(crate) fn fold_slice<T: Copy, M: WordMonoid, F: Fn(T) -> M::Item>(
     sum
 }
 
-// The joins of a start with what is made of the items before each, and of all.
+// The joins of a start with what is made of the items before each.
 pub(crate) fn run_slice<T: Copy, M: WordMonoid, F: Fn(T) -> M::Item>(
     alloc: Global,
     monoid: &M,
     part: &[T],
     lift: &F,
     start: M::Item,
-) -> Result<(Vec<M::Item>, M::Item), AllocError>
+) -> Result<Vec<M::Item>, AllocError>
     requires callable { F.IsAlwaysCallable lift.now }
     requires items { GivesItems (F.post lift.now) (M.ops monoid.now) part.now }
     requires start { IsItem (M.ops monoid.now) start }
-    ensures list { IfOk result (λ r. (lifted : List M.Item) → Lifts (F.post lift.now) part.now lifted → r.0.items ≡ running (M.ops monoid.now) start lifted) }
-    ensures last { IfOk result (λ r. (lifted : List M.Item) → Lifts (F.post lift.now) part.now lifted → r.1 ≡ fold (M.ops monoid.now).join start lifted) }
+    ensures { IfOk result (λ v. (lifted : List M.Item) → Lifts (F.post lift.now) part.now lifted → v.items ≡ running (M.ops monoid.now) start lifted) }
 {
     let mut sum = start;
     let mut all = Vec::with_capacity(alloc, part.len())?;
@@ -44,5 +43,26 @@ pub(crate) fn run_slice<T: Copy, M: WordMonoid, F: Fn(T) -> M::Item>(
         all.push(sum)?;
         sum = monoid.join(sum, lift(*x));
     }
-    Ok((all, sum))
+    Ok(all)
+}
+
+// The same, into a list of as many items.
+pub(crate) fn run_into<T: Copy, M: WordMonoid, F: Fn(T) -> M::Item>(
+    monoid: &M,
+    part: &[T],
+    lift: &F,
+    start: M::Item,
+    out: &mut [M::Item],
+)
+    requires callable { F.IsAlwaysCallable lift.now }
+    requires items { GivesItems (F.post lift.now) (M.ops monoid.now) part.now }
+    requires start { IsItem (M.ops monoid.now) start }
+    requires wide { length out.old ≡ length part.now }
+    ensures { (lifted : List M.Item) → Lifts (F.post lift.now) part.now lifted → out.new ≡ running (M.ops monoid.now) start lifted }
+{
+    let mut sum = start;
+    for k in 0..out.len() {
+        out[k] = sum;
+        sum = monoid.join(sum, lift(part[k]));
+    }
 }

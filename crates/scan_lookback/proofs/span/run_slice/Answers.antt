@@ -1,7 +1,7 @@
 use Rattle.std.proofs.Common.{Some, refl, sym, ap, ◌∙◌, subst, arith}
 use Rattle.std.proofs.lemmas.Option.{slice_get-get_or}
 use Rattle.word_monoid.specs.Monoid.{IsItem}
-use Rattle.scan_lookback.proofs.Cutting.{lifted_more, listed_more, lifted_all, listed_all}
+use Rattle.scan_lookback.proofs.Cutting.{lifted_more, listed_more, listed_all}
 use Rattle.scan_lookback.proofs.span.run_slice.Goals as goal
 
 pub loop-x-init : goal.loop-x-init
@@ -17,8 +17,5 @@ loop-x-preserved g c =
       item = subst (IsItem (g.M.WordMonoid.ops m)) (sym c.join-sum.ensures) ((g.met.M.WordMonoid.lawful m).join_is_item c.loop-x.sum c.lift.result c.loop-x.invariant.item (c.requires.items c.loop-x.x-index c.x-item.result c.lift.result at c.lift.ensures));
     }
 
-pub returns-clause-list : goal.returns-clause-list
-returns-clause-list g c = let m = c.args.monoid.now in λ lifted lifts. listed_all _ c.args.part.now lifted lifts (g.M.WordMonoid.ops m) c.args.start _ c.loop-x.x-index (omega arith) (c.loop-x.invariant.listed lifted lifts)
-
-pub returns-clause-last : goal.returns-clause-last
-returns-clause-last g c = let m = c.args.monoid.now in λ lifted lifts. lifted_all _ c.args.part.now lifted lifts (g.M.WordMonoid.ops m) c.args.start _ c.loop-x.x-index (omega arith) (c.loop-x.invariant.joined lifted lifts)
+pub returns : goal.returns
+returns g c = let m = c.args.monoid.now in λ lifted lifts. listed_all _ c.args.part.now lifted lifts (g.M.WordMonoid.ops m) c.args.start _ c.loop-x.x-index (omega arith) (c.loop-x.invariant.listed lifted lifts)

@@ -1,19 +1,19 @@
 use Rattle.std.proofs.Common.{ℕ, ◌<◌, ap, ◌∙◌, sym, subst}
 use Rattle.chunk_seats.specs.Claims.{finishing}
 use Rattle.scan_lookback.proofs.Working.{stands_last}
-use Rattle.scan_lookback.proofs.Working.{even_more, tidy_shown, tidy_sealed, on_err, tidy_as, even_as, answers_more, all_more, Answered}
+use Rattle.scan_lookback.proofs.Working.{even_more, tidy_sealed, on_err, tidy_as, even_as, answers_more, all_more, Answered}
 use Rattle.scan_lookback.proofs.board.ScanBoard.work.Goals as goal
 
 pub returns-in_err-list-clause-tidy : goal.returns-in_err-list-clause-tidy
 returns-in_err-list-clause-tidy g c =
     let drawn = c.in-Some.ensures.some in
-    on_err c.from_residual.result (tidy_as _ _ _ _ (ap (λ s. s.view) drawn.1) (ap (λ s. s.view) c.in_err-list.ensures.shown)
-    (tidy_shown c.loop-c.mine.view c.loop-c.seat.view c.in-Some.c c.chunk.new.seat.view.looked c.loop-c.invariant.even drawn.2))
+    on_err c.from_residual.result (tidy_as _ _ _ _ (ap (λ s. s.view) drawn.1) (ap (λ s. s.view) c.chunk.ensures.sealed)
+    (tidy_sealed c.loop-c.mine.view c.loop-c.seat.view c.in-Some.c c.chunk.new.seat.view.looked c.loop-c.invariant.even drawn.2))
 
 pub returns-in_err-push-clause-tidy : goal.returns-in_err-push-clause-tidy
 returns-in_err-push-clause-tidy g c =
     let drawn = c.in-Some.ensures.some in
-    on_err c.from_residual-in_err-push.result (tidy_as _ _ _ _ (ap (λ s. s.view) drawn.1) (ap (λ s. s.view) c.in_ok-list.ensures.sealed)
+    on_err c.from_residual-in_err-push.result (tidy_as _ _ _ _ (ap (λ s. s.view) drawn.1) (ap (λ s. s.view) c.chunk.ensures.sealed)
     (tidy_sealed c.loop-c.mine.view c.loop-c.seat.view c.in-Some.c c.chunk.new.seat.view.looked c.loop-c.invariant.even drawn.2))
 
 pub done-requires-clause-claimed : goal.done-requires-clause-claimed
@@ -23,7 +23,7 @@ pub loop-c-preserved : goal.loop-c-preserved
 loop-c-preserved g c =
     let drawn = c.in-Some.ensures.some in
     let i = c.loop-c.invariant in
-    let sealed = c.in_ok-list.ensures.sealed in
+    let sealed = c.chunk.ensures.sealed in
     record {
       seat_board = ap (λ s. s.board) sealed ∙ i.seat_board;
       mine_board = ap (λ s. s.board) c.done.ensures ∙ (ap (λ s. s.board) drawn.1 ∙ i.mine_board);

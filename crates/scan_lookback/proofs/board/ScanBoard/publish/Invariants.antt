@@ -1,4 +1,4 @@
-use Rattle.scan_lookback.proofs.board.ScanBoard.chunk.Given as goal
+use Rattle.scan_lookback.proofs.board.ScanBoard.publish.Given as goal
 
 -- nothing is counted here
 abbrev pub ghosts-joined_before : goal.ghosts-joined_before
