@@ -11,6 +11,7 @@ pub mod Counts
 pub mod Running
 pub mod Resuming
 pub mod Weights
+pub mod Parts
 pub mod Walking
 pub mod Meaning
 pub mod Rows

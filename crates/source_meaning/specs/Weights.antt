@@ -34,7 +34,7 @@ module _ (calls turns : ℕ) where
     stmt_weight (var at x ty e) = expr_weight e + 3
     stmt_weight (if_only at c a) = expr_weight c + (stmt_weight a + 3)
     stmt_weight (if_else at c a b) = expr_weight c + (stmt_weight a + (stmt_weight b + 3))
-    stmt_weight (stray_else at a) = 1
+    stmt_weight (stray_else at a) = suc (stmt_weight a)
     stmt_weight (while at c a) = expr_weight c + (turns_weight (expr_weight c) (stmt_weight a) turns + 3)
     stmt_weight (return at e) = expr_weight e + 3
     stmt_weight (block at ss) = stmts_weight ss + 2

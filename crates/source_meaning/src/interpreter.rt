@@ -199,7 +199,7 @@ impl<'a> Walker<'a> {
         requires light { (calls : ℕ) → stmt_weight calls self.old.turns (stmt_of f.now.body) ≤ heaviest calls self.old.turns self.old.functions.now }
         ensures { Opens self.old (function_of f.now) args.items result self.new }
     {
-        let Some(left) = left_behind(self.call.left, f) else {
+        let Some(left) = left_behind(self.alloc, self.call.left, f)? else {
             return Err(Stop::Deep);
         };
         if self.call.calls == 0 {
@@ -208,7 +208,8 @@ impl<'a> Walker<'a> {
         let mut names = Names::new(self.alloc);
         names.declare_all(&f.params)?;
         let mut table = args;
-        fill(&mut table, variables_of(&f.body))?;
+        let variables = variables_of(self.alloc, &f.body)?;
+        fill(&mut table, variables)?;
         let inner = OpenCall {
             calls: self.call.calls - 1,
             left,
@@ -246,19 +247,22 @@ impl<'a> Walker<'a> {
                 then,
                 otherwise,
                 ..
-            } => self.evaluate_then(
-                condition,
-                Rest::IfElse {
-                    then: Placed {
-                        statement: then,
-                        next,
+            } => {
+                let passed = variables_of(self.alloc, then)?;
+                self.evaluate_then(
+                    condition,
+                    Rest::IfElse {
+                        then: Placed {
+                            statement: then,
+                            next,
+                        },
+                        otherwise: Placed {
+                            statement: otherwise,
+                            next: next + passed,
+                        },
                     },
-                    otherwise: Placed {
-                        statement: otherwise,
-                        next: next + variables_of(then),
-                    },
-                },
-            ),
+                )
+            }
             Stmt::StrayElse { .. } => self.give(0),
             Stmt::While {
                 condition,
@@ -306,9 +310,10 @@ impl<'a> Walker<'a> {
                     self.evaluate_then(value, Rest::Initialize(next))
                 }
                 _ => {
+                    let declared = variables_of(self.alloc, first)?;
                     self.rests.push(Rest::RunAll(PlacedAll {
                         statements: rest,
-                        next: next + variables_of(first),
+                        next: next + declared,
                     }))?;
                     self.run(Placed {
                         statement: first,
