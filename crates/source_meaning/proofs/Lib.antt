@@ -1,9 +1,11 @@
 pub mod Cut
 pub mod Derived
-pub mod Bound
-pub mod Called
-pub mod Named
 pub mod Parsed
 pub mod Depths
 pub mod Stable
 pub mod OneTree
+pub mod Named
+pub mod SameScope
+pub mod Called
+pub mod Onwards
+pub mod Steps

@@ -9,7 +9,10 @@ pub mod Operators
 pub mod Frames
 pub mod Counts
 pub mod Running
+pub mod Resuming
 pub mod Weights
+pub mod Parts
+pub mod Walking
 pub mod Meaning
 pub mod Rows
 pub mod Worked

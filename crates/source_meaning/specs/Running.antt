@@ -1,62 +1,49 @@
--- How the plain interpreter's answers stand to the meaning: what a run gives or stops at, and the variables in scope.
-use Rattle.std.specs.Prelude.{◌≡◌, ℕ, List, [], ◌∷◌, ◌++◌, map, Option, Some, None, option_map, Result, Ok, Err, bytes_eq, find, slice_index, slice_set}
-use Rattle.source_meaning.specs.Scope.{Scope as SourceScope, Variable}
-use Rattle.source_meaning.specs.Meaning.{Run, gives, stops, Deep as AtDeep, More as AtMore, Outcome as Ending, Ended as EndedWith, Stopped, Table, World as SourceWorld, call_in}
+-- How the plain interpreter's answers stand to the meaning: the variables in scope, and how a call ends.
+use Rattle.std.specs.Prelude.{◌≡◌, ℕ, List, [], ◌∷◌, map, Option, Some, None, option_map, Result, Ok, Err, bytes_eq, find, slice_index, slice_set, reverse}
+use Rattle.source_meaning.specs.Scope.{Scope, Variable}
+use Rattle.source_meaning.specs.Meaning.{Deep as AtDeep, More as AtMore, Outcome as Ending, Ended as EndedWith, Stopped, Table}
 use Rattle.source_meaning.specs.Operators.{word_of}
-use Rattle.source_meaning.specs.Trees.{function_of}
+use Rattle.source_meaning.specs.declared.kinds.ValueType.TheVariants.{Int}
+use Rattle.source_meaning.specs.declared.names.Named.{Named}
 use Rattle.source_meaning.specs.declared.names.Names.{Names}
-use Rattle.source_meaning.specs.declared.names.Names.TheVariants.{Nothing, Declared'}
-use Rattle.source_meaning.specs.declared.names.Scope.{Scope}
 use Rattle.source_meaning.specs.declared.interpreter.Stop.{Stop}
 use Rattle.source_meaning.specs.declared.interpreter.Stop.TheVariants.{Deep, More, NoMemory}
 use Rattle.source_meaning.specs.declared.interpreter.Outcome.{Outcome}
 use Rattle.source_meaning.specs.declared.interpreter.Outcome.TheVariants.{Ended, Deep as DeepAnswer, More as MoreAnswer}
-use Rattle.source_meaning.specs.declared.interpreter.World.{World}
 
 -- the names in scope with their numbers, the innermost first
+abbrev pub named_in : List Named → List (List ℕ × ℕ)
+named_in vs = map (λ v. (v.name.now, v.number)) (reverse vs)
+
 abbrev pub named : Names → List (List ℕ × ℕ)
-named Nothing = []
-named (Declared' name number p outer) = (name.now, number) ∷ named outer
+named ns = named_in ns.all.items
 
 -- the number of the innermost variable of a name
 abbrev pub number_named : List (List ℕ × ℕ) → List ℕ → Option ℕ
 number_named ns x = option_map (λ n. n.1) (find (λ n. bytes_eq n.0 x) ns)
 
+-- the names that are left where the innermost goes out of scope
+abbrev pub outer : List (List ℕ × ℕ) → List (List ℕ × ℕ)
+outer [] = []
+outer (n ∷ ns) = ns
+
+-- what of a variable decides where its value stands
 abbrev pub name_of : Variable → List ℕ × ℕ
 name_of v = (v.name, v.number)
 
--- the scope has the same names with the same numbers, and as many declared
-abbrev pub IsScope : Scope → SourceScope → Type 0
-IsScope s sc = (named s.names ≡ map name_of sc.variables) × (s.next ≡ sc.next)
+abbrev pub variable_named : List ℕ × ℕ → Variable
+variable_named n = record { name = n.0; type = Int; number = n.1; level = 0; at = 0 }
 
--- The answer is what the run gives, with the table that it leaves, or where it stops. Out of memory says nothing of the run.
-abbrev pub RunsTo : {A : Type 0} → Run A → Result A Stop → Table → Type 0
-RunsTo r (Ok x) t = r ≡ gives x t
-RunsTo r (Err Deep) t = r ≡ stops AtDeep
-RunsTo r (Err More) t = r ≡ stops AtMore
-RunsTo r (Err NoMemory) t = Unit {0}
+-- a scope with these names, where so many variables were declared
+abbrev pub scope_with : List (List ℕ × ℕ) → ℕ → Scope
+scope_with ns next = record { variables = map variable_named ns; next = next; level = 0 }
 
--- the same of a list of values, which are put behind those of a list
-abbrev pub ValuesRunTo : Run (List ℕ) → Result (Unit {0}) Stop → List ℕ → List ℕ → Table → Type 0
-ValuesRunTo r (Ok _) before after t = (vs : List ℕ) × (r ≡ gives vs t) × (after ≡ before ++ vs)
-ValuesRunTo r (Err Deep) before after t = r ≡ stops AtDeep
-ValuesRunTo r (Err More) before after t = r ≡ stops AtMore
-ValuesRunTo r (Err NoMemory) before after t = Unit {0}
-
--- the same of a call
+-- The answer of a call is its value, or where it stops. Out of memory says nothing of the call.
 abbrev pub CallsTo : Ending → Result ℕ Stop → Type 0
 CallsTo o (Ok v) = o ≡ EndedWith v
 CallsTo o (Err Deep) = o ≡ Stopped AtDeep
 CallsTo o (Err More) = o ≡ Stopped AtMore
 CallsTo o (Err NoMemory) = Unit {0}
-
--- what the calls of a body do
-abbrev pub world_of : World → SourceWorld
-world_of w = record {
-  program = map function_of w.functions.now;
-  turns = w.turns;
-  calls = call_in (map function_of w.functions.now) w.turns w.calls w.left;
-}
 
 -- the outcome that an answer tells of, values as words
 abbrev pub told : Outcome → Ending

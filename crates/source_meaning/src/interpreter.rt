@@ -1,18 +1,22 @@
-// The plain interpreter: what a program does, by recursion on its tree.
+// The plain interpreter: what a program does, step by step, with a stack of what is left to do.
 
-ghost use Rattle.std.specs.Prelude.{◌≡◌, ℕ, List, ◌+◌, ◌<◌, ◌≤◌, ◌^◌, ◌++◌, [], ◌∷◌, IfOk, OnOk, Some, None, option_map, map, length, MatchOption, replicate};
-ghost use Rattle.source_meaning.specs.Ast.{Function as FunctionTree};
-ghost use Rattle.source_meaning.specs.Scope.{Scope as SourceScope, variables_in, variables_in_all, params_scope, function_of as function_named};
-ghost use Rattle.source_meaning.specs.Meaning.{value as value_of, values as values_of, run as run_of, run_all as run_all_of, loop as loop_of, meaning, call_in, target as target_of, Outcome as Ending};
-ghost use Rattle.source_meaning.specs.Trees.{expr_of, args_of, stmt_of, stmts_of, param_of, function_of, program_of};
-ghost use Rattle.source_meaning.specs.Running.{IsScope, RunsTo, ValuesRunTo, CallsTo, world_of, told, value_numbered, stored_numbered};
-ghost use Rattle.source_meaning.specs.Weights.{weight, heaviest};
+ghost use Rattle.std.specs.Prelude.{◌≡◌, ℕ, suc, ◌+◌, ◌≤◌, ◌++◌, [], ◌∷◌, IfOk, OnOk, option_map, map, MatchOption, replicate};
+ghost use Rattle.source_meaning.specs.Scope.{variable_of, function_of as function_named};
+ghost use Rattle.source_meaning.specs.Meaning.{meaning, call_in, value_in, target as target_of, Outcome as Ending};
+ghost use Rattle.source_meaning.specs.Trees.{expr_of, args_of, stmt_of, stmts_of, function_of, program_of};
+ghost use Rattle.source_meaning.specs.Running.{CallsTo, told, value_numbered, stored_numbered, named, scope_with};
+ghost use Rattle.source_meaning.specs.Resuming.{stacked};
+ghost use Rattle.source_meaning.specs.Weights.{stmt_weight, heaviest};
+ghost use Rattle.source_meaning.specs.Walking.{program_in, meant, Gives, EvaluatesThen, Evaluates, Computes, Opens, Runs, RunsAll, Resumes, Departs};
+ghost use Rattle.source_meaning.specs.declared.rests.Rest.TheVariants.{Turn, Caller};
 
 use crate::frames::{left_behind, variables_of};
-use crate::names::{Scope, behind, declared, no_names, number_in, past};
+use crate::names::{Named, Names};
 use crate::operators::{apply_binary, apply_unary};
-use crate::trees::{Args, Expr, Function, Param, Program, Stmt, Stmts};
+use crate::rests::{Loop, OpenCall, Placed, PlacedAll, Rest, Rests};
+use crate::trees::{Args, Expr, Function, Program, Stmt, Stmts};
 use std::alloc::{AllocError, AllocFailed, Global};
+use std::mem;
 
 /// How a run of a program ends.
 #[derive(Clone, Copy, PartialEq, Eq, Debug)]
@@ -53,17 +57,6 @@ impl<T: Drop> From<AllocFailed<T>> for Stop {
     }
 }
 
-/// Where the body of a call runs: the program, how many turns each of its loops makes at most, how many more
-/// calls may be open, and the bytes of the stack that are left.
-#[derive(Clone, Copy)]
-pub(crate) struct World<'a> {
-    functions: &'a [Function],
-    turns: u64,
-    calls: u64,
-    left: u32,
-    alloc: Global,
-}
-
 /// A variable's value, 0 where there is none.
 fn value_at(number: Option<u32>, table: &[u32]) -> u32
     ensures { result ≡ value_numbered number table.now }
@@ -86,16 +79,6 @@ fn store(number: Option<u32>, x: u32, table: &mut [u32])
     }
 }
 
-/// The number of the variable that an assignment's left side names.
-fn target(scope: &Scope, left: &Expr) -> Option<u32>
-    ensures { (sc : SourceScope) → IsScope scope.now sc → result ≡ option_map (λ v. v.number) (target_of sc (expr_of left.now)) }
-{
-    match left {
-        Expr::Name { name, .. } => number_in(&scope.names, name),
-        _ => None,
-    }
-}
-
 /// A new call's table: its arguments, and a zero for each other variable.
 fn fill(table: &mut Vec<u32>, count: u32) -> Result<(), AllocError>
     ensures { OnOk result (table.new.items ≡ table.old.items ++ replicate count 0) }
@@ -106,11 +89,24 @@ fn fill(table: &mut Vec<u32>, count: u32) -> Result<(), AllocError>
     Ok(())
 }
 
-impl World<'_> {
+/// Where the walk of a program stands.
+#[derive(Drop)]
+pub(crate) struct Walker<'a> {
+    functions: &'a [Function],
+    /// How many turns each loop makes at most.
+    turns: u64,
+    call: OpenCall<'a>,
+    /// What was computed last. It is 0 behind a statement that didn't return.
+    value: u32,
+    rests: Rests<'a>,
+    alloc: Global,
+}
+
+impl<'a> Walker<'a> {
     /// The first function of a name.
-    fn function(&self, name: &[u8]) -> Option<&Function>
+    fn function(&self, name: &[u8]) -> Option<&'a Function>
         ensures first { option_map (λ f. function_of f.now) result ≡ function_named (map function_of self.now.functions.now) name.now }
-        ensures light { MatchOption result (Unit {0}) (λ f. weight f.now ≤ heaviest self.now.functions.now) }
+        ensures light { (calls : ℕ) → MatchOption result (Unit {0}) (λ f. stmt_weight calls self.now.turns (stmt_of f.now.body) ≤ heaviest calls self.now.turns self.now.functions.now) }
     {
         for f in self.functions {
             if f.name.as_slice() == name {
@@ -120,215 +116,336 @@ impl World<'_> {
         None
     }
 
-    /// The value of an expression.
-    #[cycle(walk)]
-    fn value(&self, scope: &Scope, table: &mut Vec<u32>, e: &Expr) -> Result<u32, Stop>
-        ensures { (sc : SourceScope) → IsScope scope.now sc → RunsTo (value_of (world_of self.now) sc table.old.items (expr_of e.now)) result table.new.items }
+    /// The value of a variable.
+    fn value_of(&self, name: &[u8]) -> u32
+        ensures { result ≡ value_in (variable_of (scope_with (named self.now.call.names) 0) name.now) self.now.call.table.items }
+    {
+        value_at(self.call.names.number_of(name), &self.call.table)
+    }
+
+    /// The number of the variable that an assignment's left side names.
+    fn target(&self, left: &Expr) -> Option<u32>
+        ensures { result ≡ option_map (λ v. v.number) (target_of (scope_with (named self.now.call.names) 0) (expr_of left.now)) }
+    {
+        match left {
+            Expr::Name { name, .. } => self.call.names.number_of(name),
+            _ => None,
+        }
+    }
+
+    /// Goes on with a value.
+    fn give(&mut self, value: u32) -> Result<(), Stop>
+        ensures { Gives self.old value result self.new }
+    {
+        self.value = value;
+        Ok(())
+    }
+
+    /// Computes an expression, and then does the rest with its value.
+    fn evaluate_then(&mut self, e: &'a Expr, rest: Rest<'a>) -> Result<(), Stop>
+        ensures { EvaluatesThen self.old (expr_of e.now) rest.entry result self.new }
+    {
+        self.rests.push(rest)?;
+        self.rests.push(Rest::Evaluate(e))?;
+        Ok(())
+    }
+
+    /// Computes an expression.
+    fn evaluate(&mut self, e: &'a Expr) -> Result<(), Stop>
+        ensures { Evaluates self.old (expr_of e.now) result self.new }
     {
         match e {
-            Expr::Num { value, .. } => Ok(*value),
-            Expr::Truth { value, .. } => Ok(u32::from(*value)),
-            Expr::Name { name, .. } => Ok(value_at(number_in(&scope.names, name), table)),
-            Expr::Call { name, args, .. } => {
-                let mut values = Vec::new(self.alloc);
-                self.values(scope, table, args, &mut values)?;
-                match self.function(name) {
-                    Some(f) => self.call(f, values),
-                    None => Ok(0),
-                }
+            Expr::Num { value, .. } => self.give(*value),
+            Expr::Truth { value, .. } => self.give(u32::from(*value)),
+            Expr::Name { name, .. } => {
+                let value = self.value_of(name);
+                self.give(value)
             }
-            Expr::Unary { op, operand, .. } => {
-                let x = self.value(scope, table, operand)?;
-                Ok(apply_unary(*op, x))
-            }
+            Expr::Call { name, args, .. } => self.arguments(name, Vec::new(self.alloc), args),
+            Expr::Unary { op, operand, .. } => self.evaluate_then(operand, Rest::Unary(*op)),
             Expr::Binary {
                 op,
                 left,
                 right,
                 ..
-            } => {
-                let x = self.value(scope, table, left)?;
-                let y = self.value(scope, table, right)?;
-                Ok(apply_binary(*op, x, y))
-            }
-            Expr::And { left, right, .. } => {
-                if self.value(scope, table, left)? == 0 {
-                    Ok(0)
-                } else {
-                    self.value(scope, table, right)
-                }
-            }
-            Expr::Or { left, right, .. } => match self.value(scope, table, left)? {
-                0 => self.value(scope, table, right),
-                x => Ok(x),
-            },
+            } => self.evaluate_then(left, Rest::Right { op: *op, right }),
+            Expr::And { left, right, .. } => self.evaluate_then(left, Rest::And(right)),
+            Expr::Or { left, right, .. } => self.evaluate_then(left, Rest::Or(right)),
             Expr::Assign { left, right, .. } => {
-                let x = self.value(scope, table, right)?;
-                store(target(scope, left), x, table);
-                Ok(x)
+                let number = self.target(left);
+                self.evaluate_then(right, Rest::Store(number))
             }
         }
     }
 
-    /// Puts the values of arguments, from the first to the last, behind those of a list.
-    #[cycle(walk)]
-    fn values(
-        &self,
-        scope: &Scope,
-        table: &mut Vec<u32>,
-        args: &Args,
-        values: &mut Vec<u32>,
-    ) -> Result<(), Stop>
-        ensures { (sc : SourceScope) → IsScope scope.now sc → ValuesRunTo (values_of (world_of self.now) sc table.old.items (args_of args.now)) result values.old.items values.new.items table.new.items }
+    /// Computes the arguments of a call that are left behind those whose values are known, and calls.
+    fn arguments(&mut self, name: &'a [u8], values: Vec<u32>, args: &'a Args) -> Result<(), Stop>
+        ensures { Computes self.old name.now values.items (args_of args.now) result self.new }
     {
         match args {
-            Args::Done => Ok(()),
-            Args::Then { first, rest } => {
-                let x = self.value(scope, table, first)?;
-                values.push(x)?;
-                self.values(scope, table, rest, values)
-            }
+            Args::Done => match self.function(name) {
+                Some(f) => self.open(f, values),
+                None => self.give(0),
+            },
+            Args::Then { first, rest } => self.evaluate_then(
+                first,
+                Rest::Argument { name, values, rest },
+            ),
         }
     }
 
-    /// What a call of a function gives. A frame that doesn't fit the stack is Deep, one call too many is More.
-    #[cycle(walk)]
-    fn call(&self, f: &Function, args: Vec<u32>) -> Result<u32, Stop>
-        requires light { weight f.now ≤ heaviest self.now.functions.now }
-        ensures { CallsTo (call_in (map function_of self.now.functions.now) self.now.turns self.now.calls self.now.left (function_of f.now) args.items) result }
+    /// Opens a call of a function. A frame that doesn't fit the stack is Deep, one call too many is More.
+    fn open(&mut self, f: &'a Function, args: Vec<u32>) -> Result<(), Stop>
+        requires light { (calls : ℕ) → stmt_weight calls self.old.turns (stmt_of f.now.body) ≤ heaviest calls self.old.turns self.old.functions.now }
+        ensures { Opens self.old (function_of f.now) args.items result self.new }
     {
-        let Some(left) = left_behind(self.left, f) else {
+        let Some(left) = left_behind(self.alloc, self.call.left, f)? else {
             return Err(Stop::Deep);
         };
-        if self.calls == 0 {
+        if self.call.calls == 0 {
             return Err(Stop::More);
         }
-        let inner = World {
-            calls: self.calls - 1,
-            left,
-            ..*self
-        };
+        let mut names = Names::new(self.alloc);
+        names.declare_all(&f.params)?;
         let mut table = args;
-        fill(&mut table, variables_of(&f.body))?;
-        let returned = inner.enter(&no_names(), &mut table, &f.params, &f.body)?;
-        Ok(returned.unwrap_or(0))
+        let variables = variables_of(self.alloc, &f.body)?;
+        fill(&mut table, variables)?;
+        let inner = OpenCall {
+            calls: self.call.calls - 1,
+            left,
+            names,
+            table,
+        };
+        let outer = mem::replace(&mut self.call, inner);
+        self.rests.push(Rest::Caller(outer))?;
+        self.run(Placed {
+            statement: &f.body,
+            next: f.params.len() as u32,
+        })
     }
 
-    /// Runs a body behind its parameters.
-    #[cycle(walk)]
-    fn enter(
-        &self,
-        scope: &Scope,
-        table: &mut Vec<u32>,
-        params: &[Param],
-        body: &Stmt,
-    ) -> Result<Option<u32>, Stop>
-        requires fits { scope.now.next + length params.now + variables_in (stmt_of body.now) < 2 ^ 32 }
-        ensures { (sc : SourceScope) → IsScope scope.now sc → RunsTo (run_of (world_of self.now) (params_scope sc (map param_of params.now)) table.old.items (stmt_of body.now)) result table.new.items }
+    /// Runs a statement.
+    fn run(&mut self, placed: Placed<'a>) -> Result<(), Stop>
+        ensures { Runs self.old placed.entry.next (stmt_of placed.entry.statement.now) result self.new }
     {
-        match params.split_first() {
-            Some((first, rest)) => {
-                let inner = declared(&*scope, &first.name);
-                self.enter(&inner, table, rest, body)
-            }
-            None => self.run(scope, table, body),
-        }
-    }
-
-    /// Runs a statement. It gives the value that it returned, if it returned.
-    #[cycle(walk)]
-    fn run(&self, scope: &Scope, table: &mut Vec<u32>, s: &Stmt) -> Result<Option<u32>, Stop>
-        requires fits { scope.now.next + variables_in (stmt_of s.now) < 2 ^ 32 }
-        ensures { (sc : SourceScope) → IsScope scope.now sc → RunsTo (run_of (world_of self.now) sc table.old.items (stmt_of s.now)) result table.new.items }
-    {
-        match s {
-            Stmt::Var { value, .. } => {
-                let x = self.value(scope, table, value)?;
-                store(Some(scope.next), x, table);
-                Ok(None)
-            }
+        let next = placed.next;
+        match placed.statement {
+            Stmt::Var { value, .. } => self.evaluate_then(value, Rest::Initialize(next)),
             Stmt::If {
                 condition,
                 then,
                 ..
-            } => match self.value(scope, table, condition)? {
-                0 => Ok(None),
-                _ => self.run(scope, table, then),
-            },
+            } => self.evaluate_then(
+                condition,
+                Rest::If(Placed {
+                    statement: then,
+                    next,
+                }),
+            ),
             Stmt::IfElse {
                 condition,
                 then,
                 otherwise,
                 ..
-            } => match self.value(scope, table, condition)? {
-                0 => self.run(&past(scope, then), table, otherwise),
-                _ => self.run(scope, table, then),
-            },
-            Stmt::StrayElse { .. } => Ok(None),
+            } => {
+                let passed = variables_of(self.alloc, then)?;
+                self.evaluate_then(
+                    condition,
+                    Rest::IfElse {
+                        then: Placed {
+                            statement: then,
+                            next,
+                        },
+                        otherwise: Placed {
+                            statement: otherwise,
+                            next: next + passed,
+                        },
+                    },
+                )
+            }
+            Stmt::StrayElse { .. } => self.give(0),
             Stmt::While {
                 condition,
                 body,
                 ..
-            } => self.run_loop(scope, table, condition, body),
-            Stmt::Return { value, .. } => {
-                let x = self.value(scope, table, value)?;
-                Ok(Some(x))
+            } => self.evaluate_then(
+                condition,
+                Rest::Turn(Loop {
+                    condition,
+                    body: Placed {
+                        statement: body,
+                        next,
+                    },
+                    turns: self.turns,
+                }),
+            ),
+            Stmt::Return { value, .. } => self.evaluate_then(value, Rest::Return),
+            Stmt::Block { body, .. } => {
+                self.rests.push(Rest::RunAll(PlacedAll {
+                    statements: body,
+                    next,
+                }))?;
+                Ok(())
             }
-            Stmt::Block { body, .. } => self.run_all(scope, table, body),
-            Stmt::Eval { value } => {
-                self.value(scope, table, value)?;
-                Ok(None)
-            }
+            Stmt::Eval { value } => self.evaluate_then(value, Rest::Discard),
         }
     }
 
-    /// Runs a loop, whose condition may be true as many times as it may make turns.
-    #[cycle(walk)]
-    fn run_loop(
-        &self,
-        scope: &Scope,
-        table: &mut Vec<u32>,
-        condition: &Expr,
-        body: &Stmt,
-    ) -> Result<Option<u32>, Stop>
-        requires fits { scope.now.next + variables_in (stmt_of body.now) < 2 ^ 32 }
-        ensures { (sc : SourceScope) → IsScope scope.now sc → RunsTo (loop_of (λ u. value_of (world_of self.now) sc u (expr_of condition.now)) (λ u. run_of (world_of self.now) sc u (stmt_of body.now)) self.now.turns table.old.items) result table.new.items }
+    /// Runs statements, one after the other.
+    fn run_all(&mut self, placed: PlacedAll<'a>) -> Result<(), Stop>
+        ensures { RunsAll self.old placed.entry.next (stmts_of placed.entry.statements.now) result self.new }
     {
-        for _ in 0..self.turns {
-            if self.value(scope, table, condition)? == 0 {
-                return Ok(None);
-            }
-            if let Some(x) = self.run(scope, table, body)? {
-                return Ok(Some(x));
-            }
-        }
-        match self.value(scope, table, condition)? {
-            0 => Ok(None),
-            _ => Err(Stop::More),
-        }
-    }
-
-    /// Runs statements, one after the other, until one returns.
-    #[cycle(walk)]
-    fn run_all(
-        &self,
-        scope: &Scope,
-        table: &mut Vec<u32>,
-        statements: &Stmts,
-    ) -> Result<Option<u32>, Stop>
-        requires fits { scope.now.next + variables_in_all (stmts_of statements.now) < 2 ^ 32 }
-        ensures { (sc : SourceScope) → IsScope scope.now sc → RunsTo (run_all_of (world_of self.now) sc table.old.items (stmts_of statements.now)) result table.new.items }
-    {
-        match statements {
-            Stmts::Empty => Ok(None),
-            Stmts::Next { first, rest } => match self.run(scope, table, first)? {
-                Some(x) => Ok(Some(x)),
-                None => {
-                    let next = behind(&*scope, first);
-                    self.run_all(&next, table, rest)
+        let next = placed.next;
+        match placed.statements {
+            Stmts::Empty => self.give(0),
+            Stmts::Next { first, rest } => match &**first {
+                Stmt::Var { name, value, .. } => {
+                    self.rests.push(Rest::Forget)?;
+                    self.rests.push(Rest::RunAll(PlacedAll {
+                        statements: rest,
+                        next: next + 1,
+                    }))?;
+                    self.rests
+                        .push(Rest::Declare(Named { name, number: next }))?;
+                    self.evaluate_then(value, Rest::Initialize(next))
+                }
+                _ => {
+                    let declared = variables_of(self.alloc, first)?;
+                    self.rests.push(Rest::RunAll(PlacedAll {
+                        statements: rest,
+                        next: next + declared,
+                    }))?;
+                    self.run(Placed {
+                        statement: first,
+                        next,
+                    })
                 }
             },
         }
+    }
+
+    /// Goes round a loop, if its condition is true.
+    fn turn(&mut self, looped: Loop<'a>) -> Result<(), Stop>
+        ensures { Resumes self.old (Turn looped.entry ∷ stacked self.old.rests) result self.new }
+    {
+        if self.value == 0 {
+            return Ok(());
+        }
+        if looped.turns == 0 {
+            return Err(Stop::More);
+        }
+        self.rests.push(Rest::Again(Loop {
+            turns: looped.turns - 1,
+            ..looped
+        }))?;
+        self.run(looped.body)
+    }
+
+    /// Drops what is left to do in the call.
+    fn leave(&mut self) -> Result<(), Stop>
+        ensures { Departs self.old result self.new }
+    {
+        match self.rests.pop() {
+            None => Ok(()),
+            Some(Rest::Caller(outer)) => self.go_back(outer),
+            Some(_) => {
+                self.rests.push(Rest::Return)?;
+                Ok(())
+            }
+        }
+    }
+
+    /// Goes on in the call that was open before.
+    fn go_back(&mut self, outer: OpenCall<'a>) -> Result<(), Stop>
+        ensures { Resumes self.old (Caller outer.entry ∷ stacked self.old.rests) result self.new }
+    {
+        self.call = outer;
+        Ok(())
+    }
+
+    /// Does a step.
+    fn resume(&mut self, rest: Rest<'a>) -> Result<(), Stop>
+        ensures { Resumes self.old (rest.entry ∷ stacked self.old.rests) result self.new }
+    {
+        let value = self.value;
+        match rest {
+            Rest::Evaluate(e) => self.evaluate(e),
+            Rest::Unary(op) => self.give(apply_unary(op, value)),
+            Rest::Right { op, right } => self.evaluate_then(
+                right,
+                Rest::Binary { op, left: value },
+            ),
+            Rest::Binary { op, left } => self.give(apply_binary(op, left, value)),
+            Rest::And(right) => {
+                if value == 0 {
+                    Ok(())
+                } else {
+                    self.evaluate(right)
+                }
+            }
+            Rest::Or(right) => {
+                if value == 0 {
+                    self.evaluate(right)
+                } else {
+                    Ok(())
+                }
+            }
+            Rest::Store(number) => {
+                store(number, value, &mut self.call.table);
+                Ok(())
+            }
+            Rest::Argument { name, values, rest } => {
+                let mut known = values;
+                known.push(value)?;
+                self.arguments(name, known, rest)
+            }
+            Rest::Initialize(number) => {
+                store(Some(number), value, &mut self.call.table);
+                self.give(0)
+            }
+            Rest::Discard => self.give(0),
+            Rest::RunAll(placed) => self.run_all(placed),
+            Rest::Declare(variable) => {
+                self.call.names.declare(variable)?;
+                Ok(())
+            }
+            Rest::Forget => {
+                self.call.names.forget();
+                Ok(())
+            }
+            Rest::If(then) => { if value == 0 { Ok(()) } else { self.run(then) } }
+            Rest::IfElse { then, otherwise } => {
+                if value == 0 {
+                    self.run(otherwise)
+                } else {
+                    self.run(then)
+                }
+            }
+            Rest::Turn(looped) => self.turn(looped),
+            Rest::Again(looped) => self.evaluate_then(looped.condition, Rest::Turn(looped)),
+            Rest::Return => self.leave(),
+            Rest::Caller(outer) => self.go_back(outer),
+        }
+    }
+
+    /// Does what is left, to the end.
+    fn finish(&mut self) -> Result<u32, Stop>
+        ensures { CallsTo (meant self.old) result }
+    {
+        while let Some(rest) = self.rests.pop() {
+            self.resume(rest)?;
+        }
+        Ok(self.value)
+    }
+
+    /// Calls a function that is the first one, and goes on to the end.
+    fn call_first(&mut self, f: &'a Function) -> Result<u32, Stop>
+        requires light { (calls : ℕ) → stmt_weight calls self.old.turns (stmt_of f.now.body) ≤ heaviest calls self.old.turns self.old.functions.now }
+        requires nothing_left { stacked self.old.rests ≡ [] }
+        ensures { CallsTo (call_in (program_in self.old) self.old.turns self.old.call.calls self.old.call.left (function_of f.now) []) result }
+    {
+        self.open(f, Vec::new(self.alloc))?;
+        self.finish()
     }
 }
 
@@ -349,15 +466,21 @@ fn outcome_of(answer: Result<u32, Stop>) -> Result<Outcome, AllocError>
 pub fn walk(alloc: Global, program: &Program, steps: u64, stack: u32) -> Result<Outcome, AllocError>
     ensures { IfOk result (λ outcome. told outcome ≡ meaning (program_of program.now) stack steps) }
 {
-    let world = World {
+    let mut walker = Walker {
         functions: &program.functions,
         turns: steps,
-        calls: steps,
-        left: stack,
+        call: OpenCall {
+            calls: steps,
+            left: stack,
+            names: Names::new(alloc),
+            table: Vec::new(alloc),
+        },
+        value: 0,
+        rests: Rests::new(alloc),
         alloc,
     };
-    match world.function(b"main") {
-        Some(main) => outcome_of(world.call(main, Vec::new(alloc))),
+    match walker.function(b"main") {
+        Some(main) => outcome_of(walker.call_first(main)),
         None => Ok(Outcome::Ended(0)),
     }
 }

@@ -1,99 +1,80 @@
 // The variables that are in scope where a program runs.
 
-ghost use Rattle.std.specs.Prelude.{◌≡◌, ℕ, ◌+◌, ◌<◌, ◌^◌, []};
-ghost use Rattle.source_meaning.specs.Scope.{Scope as SourceScope, variable_of, behind as scope_behind, past as scope_past, declared as scope_declared, variables_in};
-ghost use Rattle.source_meaning.specs.Trees.{stmt_of};
-ghost use Rattle.source_meaning.specs.declared.kinds.ValueType.{ValueType as Kind};
-ghost use Rattle.source_meaning.specs.Running.{IsScope, number_named, named};
-ghost use Rattle.source_meaning.specs.Counts.{capped};
+ghost use Rattle.std.specs.Prelude.{◌≡◌, ℕ, ◌+◌, ◌<◌, ◌^◌, [], ◌∷◌, map, length, OnOk};
+ghost use Rattle.source_meaning.specs.Scope.{params_scope, no_scope};
+ghost use Rattle.source_meaning.specs.Trees.{param_of};
+ghost use Rattle.source_meaning.specs.Running.{number_named, named, name_of, outer};
 
-use crate::frames::variables_of;
-use crate::trees::Stmt;
+use crate::trees::Param;
+use std::alloc::{AllocError, Global};
 
-/// Variables in scope, the innermost first.
+/// A variable in scope.
 #[derive(Clone, Copy)]
-pub(crate) enum Names<'a> {
-    Nothing,
-    Declared {
-        name: &'a [u8],
-        number: u32,
-        outer: &'a Names<'a>,
-    },
+pub(crate) struct Named<'a> {
+    pub(crate) name: &'a [u8],
+    pub(crate) number: u32,
 }
 
-/// The variables in scope, and how many were declared so far.
-#[derive(Clone, Copy)]
-pub(crate) struct Scope<'a> {
-    pub(crate) names: Names<'a>,
-    pub(crate) next: u32,
+/// The variables in scope, the innermost last.
+#[derive(Drop)]
+pub(crate) struct Names<'a> {
+    all: Vec<Named<'a>>,
 }
 
-/// The number of the innermost variable of a name.
-pub(crate) fn number_in(names: &Names, name: &[u8]) -> Option<u32>
-    ensures { result ≡ number_named (named names.now) name.now }
-{
-    match names {
-        Names::Nothing => None,
-        Names::Declared {
-            name: known,
-            number,
-            outer,
-        } => {
-            if *known == name {
-                Some(*number)
-            } else {
-                number_in(outer, name)
-            }
+impl<'a> Names<'a> {
+    /// No variable.
+    pub(crate) fn new(alloc: Global) -> Names<'a>
+        ensures { named result ≡ [] }
+    {
+        Names {
+            all: Vec::new(alloc),
         }
     }
-}
 
-/// The scope of a new call, before its parameters.
-pub(crate) fn no_names() -> Scope<'static>
-    ensures { IsScope result (record { variables = []; next = 0; level = 0 }) }
-{
-    Scope {
-        names: Names::Nothing,
-        next: 0,
+    /// The number of the innermost variable of a name.
+    pub(crate) fn number_of(&self, name: &[u8]) -> Option<u32>
+        ensures { result ≡ number_named (named self.now) name.now }
+    {
+        let mut rest = self.all.len();
+        while rest > 0 {
+            rest -= 1;
+            let known = self.all[rest];
+            if known.name == name {
+                return Some(known.number);
+            }
+        }
+        None
     }
-}
 
-/// The scope behind a declaration.
-pub(crate) fn declared<'a>(scope: &'a Scope<'a>, name: &'a [u8]) -> Scope<'a>
-    requires fits { scope.now.next + 1 < 2 ^ 32 }
-    ensures next { result.next ≡ scope.now.next + 1 }
-    ensures scope { (sc : SourceScope) (at : ℕ) (kind : Kind) → IsScope scope.now sc → IsScope result (scope_declared sc at name.now kind) }
-{
-    Scope {
-        names: Names::Declared {
-            name,
-            number: scope.next,
-            outer: &scope.names,
-        },
-        next: scope.next + 1,
+    /// Brings a variable into scope.
+    pub(crate) fn declare(&mut self, variable: Named<'a>) -> Result<(), AllocError>
+        ensures { OnOk result (named self.new ≡ (variable.entry.name.now, variable.entry.number) ∷ named self.old) }
+    {
+        self.all.push(variable)?;
+        Ok(())
     }
-}
 
-/// The scope with the numbers of a statement's variables taken.
-pub(crate) fn past<'a>(scope: &Scope<'a>, s: &Stmt) -> Scope<'a>
-    requires fits { scope.now.next + variables_in (stmt_of s.now) < 2 ^ 32 }
-    ensures next { result.next ≡ scope.now.next + variables_in (stmt_of s.now) }
-    ensures scope { (sc : SourceScope) → IsScope scope.now sc → IsScope result (scope_past sc (stmt_of s.now)) }
-{
-    Scope {
-        names: scope.names,
-        next: scope.next + variables_of(s),
+    /// The innermost variable goes out of scope.
+    pub(crate) fn forget(&mut self)
+        ensures { named self.new ≡ outer (named self.old) }
+    {
+        self.all.pop();
     }
-}
 
-/// The scope behind a statement.
-pub(crate) fn behind<'a>(scope: &'a Scope<'a>, s: &'a Stmt) -> Scope<'a>
-    requires fits { scope.now.next + variables_in (stmt_of s.now) < 2 ^ 32 }
-    ensures next { result.next ≡ scope.now.next + variables_in (stmt_of s.now) }
-    ensures scope { (sc : SourceScope) → IsScope scope.now sc → IsScope result (scope_behind sc (stmt_of s.now)) }
-{
-    match s {
-        Stmt::Var { name, .. } => declared(scope, name),
-        _ => past(scope, s),
+    /// Brings the parameters of a function into the empty scope.
+    pub(crate) fn declare_all(&mut self, params: &'a [Param]) -> Result<(), AllocError>
+        requires fresh { named self.old ≡ [] }
+        requires fits { length params.now < 2 ^ 32 }
+        ensures { OnOk result (named self.new ≡ map name_of (params_scope no_scope (map param_of params.now)).variables) }
+    {
+        let mut number = 0;
+        for param in params {
+            self.declare(Named {
+                name: &param.name,
+                number,
+            })?;
+            number += 1;
+        }
+        Ok(())
     }
 }

@@ -1,12 +1,14 @@
 // Programs whose outcomes are known, with their trees written out.
 
 use crate::interpreter::{Outcome, walk};
-use crate::kinds::{BinaryOp, ValueType};
+use crate::kinds::{BinaryOp, UnaryOp, ValueType};
 use crate::trees::{Args, Expr, Function, Param, Program, Stmt, Stmts};
 use std::alloc::{AllocError, Global};
 use std::test::Fail;
 
 const STACK: u32 = 1 << 20;
+/// How deep expressions are nested: an even number.
+const DEPTH: u32 = 100_000;
 
 fn bytes_of(alloc: Global, text: &[u8]) -> Result<Vec<u8>, AllocError> {
     let mut bytes = Vec::new(alloc);
@@ -137,6 +139,62 @@ fn without_end(rt: HostRuntime) -> Result<(), Fail> {
     let program = Program { functions };
     assert!(rt; walk(alloc, &program, 100, 1024)? == Outcome::Deep);
     assert!(rt; walk(alloc, &program, 63, 1024)? == Outcome::More);
+    assert!(rt; walk(alloc, &program, 100_000, STACK)? == Outcome::Deep);
+    assert!(rt; walk(alloc, &program, 60_000, STACK)? == Outcome::More);
+    Ok(())
+}
+
+/// The value that the last function's one statement returns.
+fn value_of_last(program: Program) -> Option<Expr> {
+    let mut functions = program.functions;
+    let last = functions.pop()?;
+    match last.body {
+        Stmt::Block {
+            body: Stmts::Next { first, .. },
+            ..
+        } => match Box::into_inner(first) {
+            Stmt::Return { value, .. } => Some(value),
+            _ => None,
+        },
+        _ => None,
+    }
+}
+
+/// Lets go of a deep expression from the outside, since a tree as a whole is let go by recursion.
+fn take_apart(value: Expr) {
+    let mut rest = value;
+    for _ in 0..2 * DEPTH {
+        rest = match rest {
+            Expr::Unary { operand, .. } => Box::into_inner(operand),
+            Expr::Binary { right, .. } => Box::into_inner(right),
+            other => other,
+        };
+    }
+}
+
+/// `1 - (1 - (.. - 1))`, behind as many signs.
+#[test]
+fn far_inside(rt: HostRuntime) -> Result<(), Fail> {
+    let alloc = rt.alloc();
+    let mut value = num(1);
+    for _ in 0..DEPTH {
+        value = binary(alloc, BinaryOp::Minus, num(1), value)?;
+    }
+    for _ in 0..DEPTH {
+        value = Expr::Unary {
+            at: 0,
+            op: UnaryOp::Negate,
+            operand: Box::new(alloc, value)?,
+        };
+    }
+    let mut functions = Vec::new(alloc);
+    functions.push(function(alloc, b"main", only(alloc, give(value))?)?)?;
+    let program = Program { functions };
+    let outcome = walk(alloc, &program, 1, STACK)?;
+    if let Some(returned) = value_of_last(program) {
+        take_apart(returned);
+    }
+    assert!(rt; outcome == Outcome::Ended(1));
     Ok(())
 }
 
@@ -240,6 +298,55 @@ fn two_steps(rt: HostRuntime) -> Result<(), Fail> {
     functions.push(function(alloc, b"main", start)?)?;
     let program = Program { functions };
     assert!(rt; walk(alloc, &program, 10, STACK)? == Outcome::Ended(30_379_224));
+    Ok(())
+}
+
+/// `fn f(var a: int, var b: int): int { return a - b; } fn main(): int { var x: int = 1; return f[x, x = 3]; }`
+#[test]
+fn first_argument_first(rt: HostRuntime) -> Result<(), Fail> {
+    let alloc = rt.alloc();
+    let less = binary(
+        alloc,
+        BinaryOp::Minus,
+        name(alloc, b"a")?,
+        name(alloc, b"b")?,
+    )?;
+    let mut params = Vec::new(alloc);
+    for text in [b"a".as_slice(), b"b".as_slice()] {
+        params.push(Param {
+            at: 0,
+            name: bytes_of(alloc, text)?,
+            kind: ValueType::Int,
+        })?;
+    }
+    let last = Args::Then {
+        first: Box::new(alloc, assign(alloc, b"x", num(3))?)?,
+        rest: Box::new(alloc, Args::Done)?,
+    };
+    let called = Expr::Call {
+        at: 0,
+        name: bytes_of(alloc, b"f")?,
+        args: Args::Then {
+            first: Box::new(alloc, name(alloc, b"x")?)?,
+            rest: Box::new(alloc, last)?,
+        },
+    };
+    let body = before(
+        alloc,
+        declare(alloc, b"x", num(1))?,
+        before(alloc, give(called), Stmts::Empty)?,
+    )?;
+    let mut functions = Vec::new(alloc);
+    functions.push(Function {
+        at: 0,
+        name: bytes_of(alloc, b"f")?,
+        params,
+        kind: ValueType::Int,
+        body: only(alloc, give(less))?,
+    })?;
+    functions.push(function(alloc, b"main", Stmt::Block { at: 0, body })?)?;
+    let program = Program { functions };
+    assert!(rt; walk(alloc, &program, 10, STACK)? == Outcome::Ended(-2));
     Ok(())
 }
 

@@ -1,0 +1,94 @@
+-- What the steps that are left to do make of the value that was computed last, in the words of the meaning.
+use Rattle.std.specs.Prelude.{ℕ, zero, suc, List, [], ◌∷◌, ◌++◌, Option, Some, None, reverse, slice_set}
+use Rattle.source_meaning.specs.Ast.{Expr as ExprTree, Args as ArgsTree, Stmt as StmtTree, Stmts as StmtsTree, Program}
+use Rattle.source_meaning.specs.Scope.{function_of}
+use Rattle.source_meaning.specs.Meaning.{Run, gives, stops, ◌>>=◌, Table, World, Outcome, Ended, Stopped, More, value, values, called, then_next, loop, run, run_all, call_in}
+use Rattle.source_meaning.specs.Operators.{unary_value, binary_value}
+use Rattle.source_meaning.specs.Trees.{expr_of, args_of, stmt_of, stmts_of}
+use Rattle.source_meaning.specs.Running.{named, outer, scope_with, stored_numbered}
+use Rattle.source_meaning.specs.declared.rests.OpenCall.{OpenCall}
+use Rattle.source_meaning.specs.declared.rests.Loop.{Loop}
+use Rattle.source_meaning.specs.declared.rests.Rests.{Rests}
+use Rattle.source_meaning.specs.declared.rests.Rest.{Rest}
+use Rattle.source_meaning.specs.declared.rests.Rest.TheVariants.{Evaluate, Unary, Right, Binary, And, Or, Store, Argument, Initialize, Discard, RunAll, Declare, Forget, If, IfElse, Turn, Again, Return, Caller}
+
+-- the steps that are left, the next one first
+abbrev pub stacked : Rests → List Rest
+stacked r = reverse r.all.items
+
+-- an open call: how many more may be opened in it, the bytes of the stack that are left, the names in scope
+-- with their numbers, and the values of its variables
+pub record Opened : Type 0 where
+  pub calls : ℕ
+  pub left : ℕ
+  pub names : List (List ℕ × ℕ)
+  pub table : Table
+
+abbrev pub opened : OpenCall → Opened
+opened c = record { calls = c.calls; left = c.left; names = named c.names; table = c.table.items }
+
+abbrev pub with_table : Opened → Table → Opened
+with_table o t = record o { table = t }
+
+-- goes on with what a run gives
+abbrev pub onwards : {A : Type 0} → Run A → (A → Table → Outcome) → Outcome
+onwards (gives x t) next = next x t
+onwards (stops s) next = Stopped s
+
+-- a loop whose condition has a value: what is left of its turns
+abbrev pub turned : (Table → Run ℕ) → (Table → Run (Option ℕ)) → ℕ → ℕ → Table → Run (Option ℕ)
+turned condition body zero x u = elim x [ zero ↦ gives None u | suc k ↦ stops More ]
+turned condition body (suc n) x u = elim x [ zero ↦ gives None u | suc k ↦ body u >>= λ r v. then_next r (λ z. loop condition body n z) v ]
+
+module _ (p : Program) (turns : ℕ) where
+  abbrev pub world_in : Opened → World
+  world_in o = record { program = p; turns = turns; calls = call_in p turns o.calls o.left }
+
+  -- what expressions, statements and calls do in an open call; a statement stands behind so many declared variables
+  abbrev pub value_in : Opened → ExprTree → Run ℕ
+  value_in o e = value (world_in o) (scope_with o.names 0) o.table e
+
+  abbrev pub call_with : Opened → List ℕ → List ℕ → ArgsTree → Run ℕ
+  call_with o f known es = values (world_in o) (scope_with o.names 0) o.table es >>= λ vs t. called (world_in o) (function_of p f) (known ++ vs) t
+
+  abbrev pub run_in : Opened → ℕ → StmtTree → Run (Option ℕ)
+  run_in o next s = run (world_in o) (scope_with o.names next) o.table s
+
+  abbrev pub run_all_in : Opened → ℕ → StmtsTree → Run (Option ℕ)
+  run_all_in o next ss = run_all (world_in o) (scope_with o.names next) o.table ss
+
+  abbrev pub condition_of : Opened → Loop → Table → Run ℕ
+  condition_of o l t = value (world_in o) (scope_with o.names l.body.next) t (expr_of l.condition.now)
+
+  abbrev pub body_of : Opened → Loop → Table → Run (Option ℕ)
+  body_of o l t = run (world_in o) (scope_with o.names l.body.next) t (stmt_of l.body.statement.now)
+
+  abbrev mutual
+    -- goes on with a value. Behind a statement that didn't return it is 0.
+    pub resume : List Rest → Opened → ℕ → Outcome
+    resume [] o x = Ended x
+    resume (Evaluate e ∷ k) o x = onwards (value_in o (expr_of e.now)) (λ y t. resume k (with_table o t) y)
+    resume (Unary op ∷ k) o x = resume k o (unary_value op x)
+    resume (Right op b ∷ k) o x = onwards (value_in o (expr_of b.now)) (λ y t. resume k (with_table o t) (binary_value op x y))
+    resume (Binary op y ∷ k) o x = resume k o (binary_value op y x)
+    resume (And b ∷ k) o x = onwards (elim x [ zero ↦ gives zero o.table | suc n ↦ value_in o (expr_of b.now) ]) (λ y t. resume k (with_table o t) y)
+    resume (Or b ∷ k) o x = onwards (elim x [ zero ↦ value_in o (expr_of b.now) | suc n ↦ gives (suc n) o.table ]) (λ y t. resume k (with_table o t) y)
+    resume (Store n ∷ k) o x = resume k (with_table o (stored_numbered n x o.table)) x
+    resume (Argument f known es ∷ k) o x = onwards (call_with o f.now (known.items ++ x ∷ []) (args_of es.now)) (λ y t. resume k (with_table o t) y)
+    resume (Initialize n ∷ k) o x = resume k (with_table o (slice_set o.table n x)) 0
+    resume (Discard ∷ k) o x = resume k o 0
+    resume (RunAll q ∷ k) o x = onwards (run_all_in o q.next (stmts_of q.statements.now)) (λ r t. elim r [ None ↦ resume k (with_table o t) 0 | Some v ↦ leave k v ])
+    resume (Declare v ∷ k) o x = resume k (record o { names = (v.name.now, v.number) ∷ o.names }) x
+    resume (Forget ∷ k) o x = resume k (record o { names = outer o.names }) x
+    resume (If q ∷ k) o x = onwards (elim x [ zero ↦ gives None o.table | suc n ↦ run_in o q.next (stmt_of q.statement.now) ]) (λ r t. elim r [ None ↦ resume k (with_table o t) 0 | Some v ↦ leave k v ])
+    resume (IfElse q r ∷ k) o x = onwards (elim x [ zero ↦ run_in o r.next (stmt_of r.statement.now) | suc n ↦ run_in o q.next (stmt_of q.statement.now) ]) (λ r t. elim r [ None ↦ resume k (with_table o t) 0 | Some v ↦ leave k v ])
+    resume (Turn l ∷ k) o x = onwards (turned (condition_of o l) (body_of o l) l.turns x o.table) (λ r t. elim r [ None ↦ resume k (with_table o t) 0 | Some v ↦ leave k v ])
+    resume (Again l ∷ k) o x = onwards (loop (condition_of o l) (body_of o l) l.turns o.table) (λ r t. elim r [ None ↦ resume k (with_table o t) 0 | Some v ↦ leave k v ])
+    resume (Return ∷ k) o x = leave k x
+    resume (Caller c ∷ k) o x = resume k (opened c) x
+
+    -- returns a value from the open call
+    pub leave : List Rest → ℕ → Outcome
+    leave [] x = Ended x
+    leave (Caller c ∷ k) x = resume k (opened c) x
+    leave (r ∷ k) x = leave k x

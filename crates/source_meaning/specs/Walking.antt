@@ -1,0 +1,99 @@
+-- Where the walk of a program stands: what it comes to, and that each step comes to the same with less left to do.
+use Rattle.std.specs.Prelude.{◌≡◌, ℕ, suc, ◌+◌, ◌<◌, List, ◌∷◌, map, Option, Some, None, Result, Ok, Err}
+use Rattle.source_meaning.specs.Ast.{Expr as ExprTree, Args as ArgsTree, Stmt as StmtTree, Stmts as StmtsTree, Function as FunctionTree, Program}
+use Rattle.source_meaning.specs.Meaning.{Deep as AtDeep, More as AtMore, Run, Outcome, Stopped, returned, call_in}
+use Rattle.source_meaning.specs.Trees.{function_of}
+use Rattle.source_meaning.specs.Resuming.{opened, with_table, stacked, onwards, resume, leave, value_in, call_with, run_in, run_all_in}
+use Rattle.source_meaning.specs.Weights.{expr_weight, args_weight, stmt_weight, stmts_weight, call_weight, rests_weight}
+use Rattle.source_meaning.specs.declared.rests.Rest.{Rest}
+use Rattle.source_meaning.specs.declared.interpreter.Stop.{Stop}
+use Rattle.source_meaning.specs.declared.interpreter.Stop.TheVariants.{Deep, More, NoMemory}
+use Rattle.source_meaning.specs.declared.interpreter.Walker.{Walker}
+
+abbrev pub program_in : Walker → Program
+program_in w = map function_of w.functions.now
+
+-- what the steps that are left come to, with a value
+abbrev pub given : Walker → ℕ → Outcome
+given w x = resume (program_in w) w.turns (stacked w.rests) (opened w.call) x
+
+abbrev pub meant : Walker → Outcome
+meant w = given w w.value
+
+-- what they come to behind a run that gives a value, and behind one of statements
+abbrev pub with_value : Walker → Run ℕ → Outcome
+with_value w r = onwards r (λ y t. resume (program_in w) w.turns (stacked w.rests) (with_table (opened w.call) t) y)
+
+abbrev pub settled : Walker → Run (Option ℕ) → Outcome
+settled w r = onwards r (λ s t. elim s [ None ↦ resume (program_in w) w.turns (stacked w.rests) (with_table (opened w.call) t) 0 | Some v ↦ leave (program_in w) w.turns (stacked w.rests) v ])
+
+-- an expression, the arguments of a call that are left behind others, a call, a statement, statements
+abbrev pub evaluated : Walker → ExprTree → Outcome
+evaluated w e = with_value w (value_in (program_in w) w.turns (opened w.call) e)
+
+abbrev pub evaluated_then : Walker → ExprTree → Rest → Outcome
+evaluated_then w e rest = onwards (value_in (program_in w) w.turns (opened w.call) e) (λ y t. resume (program_in w) w.turns (rest ∷ stacked w.rests) (with_table (opened w.call) t) y)
+
+abbrev pub argued : Walker → List ℕ → List ℕ → ArgsTree → Outcome
+argued w f known es = with_value w (call_with (program_in w) w.turns (opened w.call) f known es)
+
+abbrev pub called_with : Walker → FunctionTree → List ℕ → Outcome
+called_with w f args = with_value w (returned (call_in (program_in w) w.turns w.call.calls w.call.left f args) w.call.table.items)
+
+abbrev pub ran : Walker → ℕ → StmtTree → Outcome
+ran w next s = settled w (run_in (program_in w) w.turns (opened w.call) next s)
+
+abbrev pub ran_all : Walker → ℕ → StmtsTree → Outcome
+ran_all w next ss = settled w (run_all_in (program_in w) w.turns (opened w.call) next ss)
+
+-- steps before those that are left
+abbrev pub resumed : Walker → List Rest → Outcome
+resumed w k = resume (program_in w) w.turns k (opened w.call) w.value
+
+abbrev pub departed : Walker → Outcome
+departed w = leave (program_in w) w.turns (stacked w.rests) w.value
+
+-- how much is left
+abbrev pub weigh_rests : Walker → List Rest → ℕ
+weigh_rests w k = rests_weight w.functions.now w.turns w.call.calls k
+
+abbrev pub weigh : Walker → ℕ
+weigh w = weigh_rests w (stacked w.rests)
+
+abbrev pub weight_of_call : Walker → ℕ
+weight_of_call w = call_weight w.functions.now w.turns w.call.calls
+
+-- What was meant is what is meant, and less is left than so much; or it stops. Out of memory says nothing.
+abbrev pub Went : Outcome → ℕ → Result (Unit {0}) Stop → Walker → Type 0
+Went o n (Ok _) w = (o ≡ meant w) × (weigh w < n)
+Went o n (Err Deep) w = o ≡ Stopped AtDeep
+Went o n (Err More) w = o ≡ Stopped AtMore
+Went o n (Err NoMemory) w = Unit {0}
+
+-- The answers of the interpreter's functions: what each of them comes to, and how much it may leave to do.
+pub record Gives (w : Walker) (x : ℕ) (y : Result (Unit {0}) Stop) (v : Walker) : Type 0 where
+  pub went : Went (given w x) (suc (weigh w)) y v
+
+pub record EvaluatesThen (w : Walker) (e : ExprTree) (rest : Rest) (y : Result (Unit {0}) Stop) (v : Walker) : Type 0 where
+  pub went : Went (evaluated_then w e rest) (suc (suc (expr_weight (weight_of_call w) w.turns e + weigh_rests w (rest ∷ stacked w.rests)))) y v
+
+pub record Evaluates (w : Walker) (e : ExprTree) (y : Result (Unit {0}) Stop) (v : Walker) : Type 0 where
+  pub went : Went (evaluated w e) (expr_weight (weight_of_call w) w.turns e + weigh w) y v
+
+pub record Computes (w : Walker) (f known : List ℕ) (es : ArgsTree) (y : Result (Unit {0}) Stop) (v : Walker) : Type 0 where
+  pub went : Went (argued w f known es) (args_weight (weight_of_call w) w.turns es + weigh w) y v
+
+pub record Opens (w : Walker) (f : FunctionTree) (args : List ℕ) (y : Result (Unit {0}) Stop) (v : Walker) : Type 0 where
+  pub went : Went (called_with w f args) (suc (weight_of_call w + weigh w)) y v
+
+pub record Runs (w : Walker) (next : ℕ) (s : StmtTree) (y : Result (Unit {0}) Stop) (v : Walker) : Type 0 where
+  pub went : Went (ran w next s) (stmt_weight (weight_of_call w) w.turns s + weigh w) y v
+
+pub record RunsAll (w : Walker) (next : ℕ) (ss : StmtsTree) (y : Result (Unit {0}) Stop) (v : Walker) : Type 0 where
+  pub went : Went (ran_all w next ss) (stmts_weight (weight_of_call w) w.turns ss + weigh w) y v
+
+pub record Resumes (w : Walker) (k : List Rest) (y : Result (Unit {0}) Stop) (v : Walker) : Type 0 where
+  pub went : Went (resumed w k) (weigh_rests w k) y v
+
+pub record Departs (w : Walker) (y : Result (Unit {0}) Stop) (v : Walker) : Type 0 where
+  pub went : Went (departed w) (suc (weigh w)) y v

@@ -1,0 +1,135 @@
+// What is left to do where a program runs.
+
+ghost use Rattle.std.specs.Prelude.{◌+◌, ◌<◌, ◌^◌};
+ghost use Rattle.source_meaning.specs.Scope.{variables_in, variables_in_all};
+ghost use Rattle.source_meaning.specs.Trees.{stmt_of, stmts_of};
+
+use crate::kinds::{BinaryOp, UnaryOp};
+use crate::names::{Named, Names};
+use crate::trees::{Args, Expr, Stmt, Stmts};
+use std::alloc::{AllocError, Global};
+
+/// A statement, and how many variables of its function were declared before it.
+#[derive(Clone, Copy)]
+pub(crate) struct Placed<'a> {
+    pub(crate) statement: &'a Stmt,
+    pub(crate) next: u32,
+    ghost fits: { next + variables_in (stmt_of statement.now) < 2 ^ 32 },
+}
+
+/// Statements, one after the other, and how many variables were declared before them.
+#[derive(Clone, Copy)]
+pub(crate) struct PlacedAll<'a> {
+    pub(crate) statements: &'a Stmts,
+    pub(crate) next: u32,
+    ghost fits: { next + variables_in_all (stmts_of statements.now) < 2 ^ 32 },
+}
+
+/// A loop that may make so many more turns.
+#[derive(Clone, Copy)]
+pub(crate) struct Loop<'a> {
+    pub(crate) condition: &'a Expr,
+    pub(crate) body: Placed<'a>,
+    pub(crate) turns: u64,
+}
+
+/// An open call: how many more may be opened in it, the bytes of the stack that are left, and its variables in
+/// scope with the values of all its variables.
+#[derive(Drop)]
+pub(crate) struct OpenCall<'a> {
+    pub(crate) calls: u64,
+    pub(crate) left: u32,
+    pub(crate) names: Names<'a>,
+    pub(crate) table: Vec<u32>,
+}
+
+/// A step that is left to do. Most take the value that was computed last.
+#[derive(Drop)]
+pub(crate) enum Rest<'a> {
+    /// Computes an expression.
+    Evaluate(&'a Expr),
+    /// Applies an operator to the value.
+    Unary(UnaryOp),
+    /// The value is the left side: computes the right side.
+    Right {
+        op: BinaryOp,
+        right: &'a Expr,
+    },
+    /// The value is the right side: applies the operator.
+    Binary {
+        op: BinaryOp,
+        left: u32,
+    },
+    /// The value is the left side of `&&`.
+    And(&'a Expr),
+    /// The value is the left side of `||`.
+    Or(&'a Expr),
+    /// Gives the value to the variable of a number.
+    Store(Option<u32>),
+    /// The value is the next argument of a call.
+    Argument {
+        name: &'a [u8],
+        values: Vec<u32>,
+        rest: &'a Args,
+    },
+    /// The value is the first one of the variable of a number.
+    Initialize(u32),
+    /// The value is that of a statement.
+    Discard,
+    /// Runs statements.
+    RunAll(PlacedAll<'a>),
+    /// Brings a variable into scope.
+    Declare(Named<'a>),
+    /// The innermost variable goes out of scope.
+    Forget,
+    /// The value is the condition of an `if`.
+    If(Placed<'a>),
+    /// The value is the condition of an `if` with an `else`.
+    IfElse {
+        then: Placed<'a>,
+        otherwise: Placed<'a>,
+    },
+    /// The value is the condition of a loop.
+    Turn(Loop<'a>),
+    /// Computes the condition of a loop again.
+    Again(Loop<'a>),
+    /// Returns the value from the call.
+    Return,
+    /// Goes on in the call that was open before.
+    Caller(OpenCall<'a>),
+}
+
+/// The steps that are left to do, the next one last.
+#[derive(Drop)]
+pub(crate) struct Rests<'a> {
+    all: Vec<Rest<'a>>,
+}
+
+impl<'a> Rests<'a> {
+    ghost use Rattle.std.specs.Prelude.{◌≡◌, [], ◌∷◌, OnOk, MatchOption};
+    ghost use Rattle.source_meaning.specs.Resuming.{stacked};
+
+    /// Nothing.
+    pub(crate) fn new(alloc: Global) -> Rests<'a>
+        ensures { stacked result ≡ [] }
+    {
+        Rests {
+            all: Vec::new(alloc),
+        }
+    }
+
+    /// Puts a step before all others.
+    pub(crate) fn push(&mut self, rest: Rest<'a>) -> Result<(), AllocError>
+        ensures { OnOk result (stacked self.new ≡ rest.entry ∷ stacked self.old) }
+    {
+        self.all.push(rest)?;
+        Ok(())
+    }
+
+    /// Takes the next step.
+    pub(crate) fn pop(&mut self) -> Option<Rest<'a>>
+        ensures { MatchOption result ((stacked self.old ≡ []) × (stacked self.new ≡ [])) (λ rest. stacked self.old ≡ rest ∷ stacked self.new) }
+    {
+        self.all.pop()
+    }
+}
