@@ -5,10 +5,12 @@
 mod chunk;
 mod crew;
 mod each;
+mod fewest;
 mod marked;
 mod places;
 
 pub use each::{map, map_lifted};
+pub use fewest::least;
 pub use marked::compact;
 pub use places::gather;
 pub use scan_lookback::{Lift, scan, scan_lifted};

@@ -58,6 +58,8 @@ fn rows<R: Threads + Abort + Sync>(
         &[true, false, true],
     )?;
     assert!(rt; kept.as_slice() == [5, 7].as_slice());
+    assert_eq!(rt; least(rt, alloc, &plan, &OpenGate, &[4, 2, 9])?, 2);
+    assert_eq!(rt; least(rt, alloc, &plan, &OpenGate, &[])?, u64::MAX);
     Ok(())
 }
 
@@ -196,6 +198,9 @@ fn two_workers_meet(rt: HostRuntime) -> Result<(), Fail> {
         &[true, false, true],
     )?;
     assert!(rt; kept.as_slice() == [5, 7].as_slice());
+    assert!(rt; have_met(&gate));
+    let gate = nobody_yet();
+    assert_eq!(rt; least(&rt, rt.alloc(), &plan, &gate, &[4, 2, 9])?, 2);
     assert!(rt; have_met(&gate));
     Ok(())
 }
