@@ -1,2 +1,4 @@
 pub mod Together
 pub mod Working
+pub mod Lowest
+pub mod Calling

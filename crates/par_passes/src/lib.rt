@@ -5,13 +5,20 @@
 mod chunk;
 mod crew;
 mod each;
+mod fewest;
 mod marked;
+mod order;
 mod places;
 
 pub use each::{map, map_lifted};
+pub use fewest::least;
 pub use marked::compact;
+pub use order::sorted;
 pub use places::gather;
 pub use scan_lookback::{Lift, scan, scan_lifted};
+pub use scatter_rows::scatter;
 
+#[cfg(test)]
+mod callers;
 #[cfg(test)]
 mod tests;

@@ -8,6 +8,7 @@ use std::process::Abort;
 use std::sync::atomic::{AtomicU64, Ordering};
 use std::test::*;
 use std::thread::Threads;
+use word_monoid::Count;
 
 struct More;
 
@@ -21,19 +22,6 @@ impl Lift<u32, u64> for More {
     }
 }
 
-// How a closure is passed.
-fn halves<R: Threads + Sync>(
-    rt: &R,
-    alloc: Global,
-    plan: &Plan,
-    xs: &[u64],
-) -> Result<Vec<u64>, AllocError>
-    requires len { length xs.now < 2 ^ 62 }
-    ensures { IfOk result (λ v. v.items ≡ map (λ x. x / 2) xs.now) }
-{
-    map(rt, alloc, plan, &OpenGate, xs, &|x: u64| x / 2)
-}
-
 fn rows<R: Threads + Abort + Sync>(
     rt: &R,
     alloc: Global,
@@ -45,8 +33,6 @@ fn rows<R: Threads + Abort + Sync>(
     assert!(rt; more.as_slice() == [2, 3].as_slice());
     let none = map_lifted(rt, alloc, &plan, &OpenGate, &[], &More)?;
     assert!(rt; none.is_empty());
-    let half = halves(rt, alloc, &plan, &[2, 4, 7])?;
-    assert!(rt; half.as_slice() == [1, 2, 3].as_slice());
     let placed = gather(rt, alloc, &plan, &OpenGate, &[5, 6, 7], &[2, 0, 2])?;
     assert!(rt; placed.as_slice() == [7, 5, 7].as_slice());
     let kept = compact(
@@ -58,6 +44,14 @@ fn rows<R: Threads + Abort + Sync>(
         &[true, false, true],
     )?;
     assert!(rt; kept.as_slice() == [5, 7].as_slice());
+    assert_eq!(rt; least(rt, alloc, &plan, &OpenGate, &[4, 2, 9])?, 2);
+    assert_eq!(rt; least(rt, alloc, &plan, &OpenGate, &[])?, u64::MAX);
+    let up = sorted(rt, alloc, &plan, &[3, 1, 2])?;
+    assert!(rt; up.as_slice() == [1, 2, 3].as_slice());
+    let sums = scan_lifted(rt, alloc, &plan, &OpenGate, &Count, &[2, 0, 3, 0, 4], &More)?;
+    assert!(rt; sums.as_slice() == [0, 3, 4, 8, 9, 14].as_slice());
+    let cells = scatter(rt, alloc, &plan, &OpenGate, &[2, 0], &[7, 9], 4)?;
+    assert!(rt; cells.as_slice() == [9, 0, 7, 0].as_slice());
     Ok(())
 }
 
@@ -67,18 +61,6 @@ fn the_same_for_every_plan(rt: HostRuntime) -> Result<(), Fail> {
         for chunk in [1, 7, 65536] {
             rows(&rt, rt.alloc(), workers, chunk)?;
         }
-    }
-    Ok(())
-}
-
-#[test]
-fn one_chunk_and_one_item_more(rt: HostRuntime) -> Result<(), Fail> {
-    let plan = Plan::new(4, 7).ok_or("in range")?;
-    for n in 6..9 {
-        let xs = vec![in rt.alloc(); 5u32; n]?;
-        let more = map_lifted(&rt, rt.alloc(), &plan, &OpenGate, xs.as_slice(), &More)?;
-        assert_eq!(rt; more.len(), n);
-        assert!(rt; more.iter().all(|x| *x == 6));
     }
     Ok(())
 }
@@ -196,6 +178,25 @@ fn two_workers_meet(rt: HostRuntime) -> Result<(), Fail> {
         &[true, false, true],
     )?;
     assert!(rt; kept.as_slice() == [5, 7].as_slice());
+    assert!(rt; have_met(&gate));
+    let gate = nobody_yet();
+    assert_eq!(rt; least(&rt, rt.alloc(), &plan, &gate, &[4, 2, 9])?, 2);
+    assert!(rt; have_met(&gate));
+    let gate = nobody_yet();
+    let sums = scan_lifted(
+        &rt,
+        rt.alloc(),
+        &plan,
+        &gate,
+        &Count,
+        &[2, 0, 3, 0, 4],
+        &More,
+    )?;
+    assert!(rt; sums.as_slice() == [0, 3, 4, 8, 9, 14].as_slice());
+    assert!(rt; have_met(&gate));
+    let gate = nobody_yet();
+    let cells = scatter(&rt, rt.alloc(), &plan, &gate, &[2, 0], &[7, 9], 4)?;
+    assert!(rt; cells.as_slice() == [9, 0, 7, 0].as_slice());
     assert!(rt; have_met(&gate));
     Ok(())
 }

@@ -1,0 +1,16 @@
+use Rattle.std.proofs.Common.{◌≡◌, ◌<◌, ◌-◌, length}
+use Rattle.par_passes.specs.Least.{Offers}
+use Rattle.par_passes.proofs.fewest.offer_chunks.Given as goal
+
+abbrev pub invariant-loop-c : goal.invariant-loop-c
+invariant-loop-c g l = record {
+  seat_board : l.seat.board ≡ l.initial.seat.board;
+  mine_board : l.mine.board ≡ l.initial.mine.board;
+  share : l.seat.view.share ≡ l.initial.seat.view.share;
+  weight : l.mine.view.weight ≡ l.initial.mine.view.weight;
+  unspent : 0 < l.mine.view.share;
+  offers : Offers l.size l.keys l.mine.view.claimed l.seat.view.offered;
+}
+
+abbrev pub decreases-loop-c : goal.decreases-loop-c
+decreases-loop-c g l = l.claims.chunks - length l.mine.view.claimed

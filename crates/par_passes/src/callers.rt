@@ -1,0 +1,224 @@
+//! How each pass is called, and how little is then left to prove.
+ghost use Rattle.std.specs.Prelude.{◌≡◌, ◌+◌, ◌-◌, ◌%◌, ◌/◌, ◌<◌, ◌≤◌, ◌^◌, length, leb, map, filter, fold, min, slice_index_or, All, IfOk, IsPermutation, IsSorted};
+ghost use Rattle.std.specs.Ordering.{nat_cmp};
+ghost use Rattle.word_monoid.specs.Folds.{prefixes};
+ghost use Rattle.word_monoid.specs.Instances.{count};
+ghost use Rattle.scatter_rows.specs.Scattered.{AreDistinct, IsScattered};
+
+use super::*;
+use chunk_seats::{OpenGate, Plan};
+use std::alloc::{AllocError, Global};
+use std::process::Abort;
+use std::test::*;
+use std::thread::Threads;
+use word_monoid::Count;
+
+// A function that contracts can name.
+pub(crate) struct Low;
+
+impl Lift<u64, u64> for Low {
+    ghost use Rattle.std.specs.Prelude.{◌%◌};
+
+    ghost lifted = { λ _ x. x % 1024 };
+
+    fn lift(&self, x: u64) -> u64 {
+        x % 1024
+    }
+}
+
+// A map by a closure.
+pub(crate) fn halves<R: Threads + Sync>(
+    rt: &R,
+    alloc: Global,
+    plan: &Plan,
+    xs: &[u64],
+) -> Result<Vec<u64>, AllocError>
+    requires len { length xs.now < 2 ^ 62 }
+    ensures { IfOk result (λ v. v.items ≡ map (λ x. x / 2) xs.now) }
+{
+    map(rt, alloc, plan, &OpenGate, xs, &|x: u64| x / 2)
+}
+
+// A map by a closure over a list that it borrows.
+pub(crate) fn classes<R: Threads + Sync>(
+    rt: &R,
+    alloc: Global,
+    plan: &Plan,
+    table: &[u32],
+    bytes: &[u64],
+) -> Result<Vec<u32>, AllocError>
+    requires len { length bytes.now < 2 ^ 62 }
+    requires table { 1024 ≤ length table.now }
+    ensures { IfOk result (λ v. v.items ≡ map (λ b. slice_index_or table.now (b % 1024) 0) bytes.now) }
+{
+    let class_of = |b: u64| -> u32
+        requires { 1024 ≤ length table.now }
+        ensures { result ≡ slice_index_or table.entry.now (b % 1024) 0 }
+    { table[(b % 1024) as usize] };
+    map(rt, alloc, plan, &OpenGate, bytes, &class_of)
+}
+
+// Marks by a map.
+pub(crate) fn mark_from<R: Threads + Sync>(
+    rt: &R,
+    alloc: Global,
+    plan: &Plan,
+    xs: &[u64],
+    low: u64,
+) -> Result<Vec<bool>, AllocError>
+    requires len { length xs.now < 2 ^ 62 }
+    ensures { IfOk result (λ v. v.items ≡ map (λ x. leb low x) xs.now) }
+{
+    map(rt, alloc, plan, &OpenGate, xs, &|x: u64| low <= x)
+}
+
+// Two passes: marks, and then what is marked.
+pub(crate) fn at_least<R: Threads + Sync>(
+    rt: &R,
+    alloc: Global,
+    plan: &Plan,
+    xs: &[u64],
+    low: u64,
+) -> Result<Vec<u64>, AllocError>
+    requires len { length xs.now < 2 ^ 62 }
+    ensures { IfOk result (λ v. v.items ≡ filter (λ x. leb low x) xs.now) }
+{
+    let marks = mark_from(rt, alloc, plan, xs, low)?;
+    compact(rt, alloc, plan, &OpenGate, xs, marks.as_slice())
+}
+
+// The least of what a function gives.
+pub(crate) fn lowest<R: Threads + Sync>(
+    rt: &R,
+    alloc: Global,
+    plan: &Plan,
+    xs: &[u64],
+) -> Result<u64, AllocError>
+    requires len { length xs.now < 2 ^ 62 }
+    ensures { IfOk result (λ m. m ≡ fold min (2 ^ 64 - 1) (map (λ x. x % 1024) xs.now)) }
+{
+    let keys = map_lifted(rt, alloc, plan, &OpenGate, xs, &Low)?;
+    least(rt, alloc, plan, &OpenGate, keys.as_slice())
+}
+
+// Where each piece begins, from the pieces' lengths.
+pub(crate) fn starts<R: Threads + Sync>(
+    rt: &R,
+    alloc: Global,
+    plan: &Plan,
+    xs: &[u64],
+) -> Result<Vec<u64>, AllocError>
+    requires len { length xs.now < 2 ^ 62 }
+    ensures { IfOk result (λ v. v.items ≡ prefixes count (map (λ x. x % 1024) xs.now)) }
+{
+    scan_lifted(rt, alloc, plan, &OpenGate, &Count, xs, &Low)
+}
+
+// Items in an order of their own.
+pub(crate) fn in_order<R: Threads + Sync>(
+    rt: &R,
+    alloc: Global,
+    plan: &Plan,
+    items: &[u32],
+    order: &[u64],
+) -> Result<Vec<u32>, AllocError>
+    requires len { length order.now < 2 ^ 62 }
+    requires inside { All (λ p. p < length items.now) order.now }
+    ensures { IfOk result (λ v. v.items ≡ map (λ p. slice_index_or items.now p 0) order.now) }
+{
+    gather(rt, alloc, plan, &OpenGate, items, order)
+}
+
+// Numbers in ascending order.
+pub(crate) fn ascending<R: Threads + Sync>(
+    rt: &R,
+    alloc: Global,
+    plan: &Plan,
+    xs: &[u32],
+) -> Result<Vec<u32>, AllocError>
+    ensures { IfOk result (λ v. IsPermutation xs.now v.items × IsSorted nat_cmp v.items) }
+{
+    sorted(rt, alloc, plan, xs)
+}
+
+// Values at their places.
+pub(crate) fn placed<R: Threads + Sync>(
+    rt: &R,
+    alloc: Global,
+    plan: &Plan,
+    places: &[u64],
+    values: &[u64],
+) -> Result<Vec<u64>, AllocError>
+    requires lists { (length values.now ≡ length places.now) × (length places.now < 2 ^ 62) }
+    requires inside { All (λ p. p < length places.now) places.now }
+    requires distinct { AreDistinct places.now }
+    requires small { All (λ v. v < 2 ^ 64 - 1) values.now }
+    ensures { IfOk result (λ v. IsScattered places.now values.now (length places.now) v.items) }
+{
+    scatter(
+        rt,
+        alloc,
+        plan,
+        &OpenGate,
+        places,
+        values,
+        places.len() as u64,
+    )
+}
+
+fn calls<R: Threads + Abort + Sync>(
+    rt: &R,
+    alloc: Global,
+    workers: u32,
+    chunk: u32,
+) -> Result<(), Fail> {
+    let plan = Plan::new(workers, chunk).ok_or("in range")?;
+    let half = halves(rt, alloc, &plan, &[2, 4, 7])?;
+    assert!(rt; half.as_slice() == [1, 2, 3].as_slice());
+    let high = at_least(rt, alloc, &plan, &[5, 1, 7, 3], 4)?;
+    assert!(rt; high.as_slice() == [5, 7].as_slice());
+    assert_eq!(rt; lowest(rt, alloc, &plan, &[1026, 5, 2047])?, 2);
+    let begins = starts(rt, alloc, &plan, &[])?;
+    assert!(rt; begins.as_slice() == [0].as_slice());
+    let table = vec![in alloc; 3u32; 1024]?;
+    let class = classes(rt, alloc, &plan, table.as_slice(), &[9, 1025])?;
+    assert!(rt; class.as_slice() == [3, 3].as_slice());
+    let cells = placed(rt, alloc, &plan, &[1, 0], &[5, 6])?;
+    assert!(rt; cells.as_slice() == [6, 5].as_slice());
+    let moved = in_order(rt, alloc, &plan, &[5, 6, 7], &[])?;
+    assert!(rt; moved.is_empty());
+    let up = ascending(rt, alloc, &plan, &[])?;
+    assert!(rt; up.is_empty());
+    let kept = at_least(rt, alloc, &plan, &[], 4)?;
+    assert!(rt; kept.is_empty());
+    Ok(())
+}
+
+#[test]
+fn callers_of_every_plan(rt: HostRuntime) -> Result<(), Fail> {
+    for workers in [1, 4, 64] {
+        for chunk in [1, 7, 65536] {
+            calls(&rt, rt.alloc(), workers, chunk)?;
+        }
+    }
+    Ok(())
+}
+
+#[test]
+fn one_chunk_and_one_item_more(rt: HostRuntime) -> Result<(), Fail> {
+    let alloc = rt.alloc();
+    let plan = Plan::new(4, 7).ok_or("in range")?;
+    for n in [1, 6, 7, 8] {
+        let xs: Vec<u64> = (0..n).rev().collect(alloc)?;
+        let xs = xs.as_slice();
+        let half = halves(&rt, alloc, &plan, xs)?;
+        assert!(rt; half.iter().zip(xs.iter()).all(|p| *p.0 == *p.1 / 2));
+        let kept = at_least(&rt, alloc, &plan, xs, 0)?;
+        assert!(rt; kept.as_slice() == xs);
+        assert_eq!(rt; lowest(&rt, alloc, &plan, xs)?, 0);
+        assert_eq!(rt; starts(&rt, alloc, &plan, xs)?.len() as u64, n + 1);
+        let up = sorted(&rt, alloc, &plan, xs)?;
+        assert!(rt; up.iter().enumerate().all(|p| *p.1 == p.0 as u64));
+    }
+    Ok(())
+}
