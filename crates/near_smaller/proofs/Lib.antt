@@ -1,0 +1,4 @@
+pub mod Halving
+pub mod Passing
+pub mod Climbing
+pub mod Rising
