@@ -96,3 +96,7 @@ module _ (xs out : List ℤ) (is : out ≡ map lesser (first_chunks 2 (length xs
     below = λ k within. below_pair k within (cases_lt (k / 2) (length xs / 2));
     is_one = λ b lt. one_of_pair b lt (cases_lt b (length xs / 2));
   }
+
+-- the same, as the code puts it together
+pub halved_out : (xs : List ℤ) (pairs : List (List ℤ)) (made kept out rest : List ℤ) → pairs ≡ first_chunks 2 (length xs / 2) xs → rest ≡ drop (length xs / 2 * 2) xs → made ≡ map lesser pairs → kept ≡ made → out ≡ kept ++ rest → HalvedTo xs out
+halved_out xs pairs made kept out rest pairs_is rest_is made_is kept_is out_is = halved_to xs out (out_is ∙ ap₂ (λ (u v : List ℤ). u ++ v) (kept_is ∙ (made_is ∙ ap (map lesser) pairs_is)) rest_is)

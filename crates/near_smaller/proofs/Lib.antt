@@ -2,3 +2,4 @@ pub mod Halving
 pub mod Passing
 pub mod Climbing
 pub mod Rising
+pub mod Answering

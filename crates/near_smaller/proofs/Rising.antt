@@ -1,5 +1,5 @@
 -- One more level.
-use Rattle.std.proofs.Common.{◌≡◌, ℕ, zero, suc, ◌+◌, ◌-◌, ◌*◌, ◌/◌, ◌^◌, ◌<◌, ◌≤◌, ◌⊎◌, inl, inr, List, [], ◌∷◌, ◌++◌, length, ℤ, refl, sym, ◌∙◌, subst, arith, length-append}
+use Rattle.std.proofs.Common.{◌≡◌, ℕ, zero, suc, ◌+◌, ◌-◌, ◌*◌, ◌/◌, ◌^◌, ◌<◌, ◌≤◌, ◌⊎◌, inl, inr, List, [], ◌∷◌, ◌++◌, length, ℤ, refl, sym, ap, ◌∙◌, subst, arith, length-append}
 use Rattle.std.specs.Global.{Vec}
 use Rattle.std.proofs.Math.Nat.{pow-succ'}
 use Rattle.std.proofs.lemmas.Bool.{cases_lt}
@@ -57,8 +57,8 @@ pub rising_first : (values : List ℤ) → AreRising (values ∷ [])
 rising_first values = record { few = omega arith; halved = λ h lt. absurd (let n : length (values ∷ []) ≡ 1 = refl in omega arith) }
 
 -- levels in memory, with one pushed
-pub lists_more : (levels : List (Vec ℤ)) (level : Vec ℤ) → lists_of (levels ++ level ∷ []) ≡ lists_of levels ++ level.items ∷ []
-lists_more levels level = map-append (λ (v : Vec ℤ). v.items) levels (level ∷ [])
+pub lists_more : (levels pushed : List (Vec ℤ)) (level : Vec ℤ) → pushed ≡ levels ++ level ∷ [] → lists_of pushed ≡ lists_of levels ++ level.items ∷ []
+lists_more levels pushed level is = ap lists_of is ∙ map-append (λ (v : Vec ℤ). v.items) levels (level ∷ [])
 
 -- one value at most in the last one
 pub levels_end : (levels : List (List ℤ)) (level : List ℤ) → AreRising (levels ++ level ∷ []) → length level ≤ 1 → AreLevels (levels ++ level ∷ [])

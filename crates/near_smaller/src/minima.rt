@@ -1,6 +1,6 @@
 //! A list that is asked for its nearest values.
 ghost use Rattle.std.specs.Prelude.{◌≡◌, ◌+◌, ◌≤◌, length, IfOk, IfSome, IfNone};
-ghost use Rattle.near_smaller.specs.Nearest.{AreAbove, IsPrevious, IsNext};
+ghost use Rattle.near_smaller.specs.Nearest.{AreAbove, IsPrevious, IsNext, prev_le, next_le};
 
 use crate::before::{height_before, place_before};
 use crate::behind::{height_behind, place_behind};
@@ -48,6 +48,7 @@ impl Minima {
     /// logarithmic time.
     pub fn prev_le(&self, i: usize, x: i64) -> Option<usize>
         requires { i ≤ length self.now }
+        ensures value { result ≡ prev_le self.now i x }
         ensures found { IfSome result (IsPrevious self.now i x) }
         ensures none { IfNone result (AreAbove self.now x 0 i) }
     {
@@ -59,6 +60,7 @@ impl Minima {
     /// time.
     pub fn next_le(&self, i: usize, x: i64) -> Option<usize>
         requires { i ≤ length self.now }
+        ensures value { result ≡ next_le self.now i x }
         ensures found { IfSome result (IsNext self.now i x) }
         ensures none { IfNone result (AreAbove self.now x (i + 1) (length self.now)) }
     {

@@ -1,9 +1,11 @@
 //! Nearest values, for every kind of plan.
-ghost use Rattle.std.specs.Prelude.{◌≤◌, length};
+ghost use Rattle.std.specs.Prelude.{◌≡◌, ◌<◌, ◌≤◌, ◌^◌, length, All, map, IfOk};
+ghost use Rattle.near_smaller.specs.Nearest.{prev_le};
 
 use super::*;
 use chunk_seats::{Gate, OpenGate, Plan};
-use std::alloc::Global;
+use par_passes::map as map_items;
+use std::alloc::{AllocError, Global};
 use std::process::Abort;
 use std::sync::atomic::{AtomicU64, Ordering};
 use std::test::*;
@@ -28,7 +30,32 @@ fn questions<R: Threads + Abort + Sync>(
     assert_eq!(rt; minima.next_le(3, 5), Some(4));
     assert_eq!(rt; minima.next_le(4, 5), None);
     assert_eq!(rt; minima.next_le(5, 5), None);
+    let before = all_before(rt, alloc, &plan, &minima, &[4, 0, 5], 1)?;
+    assert!(rt; before.as_slice() == [Some(3), None, Some(3)].as_slice());
     Ok(())
+}
+
+// How many places are asked for at once.
+fn all_before<R: Threads + Sync>(
+    rt: &R,
+    alloc: Global,
+    plan: &Plan,
+    minima: &Minima,
+    places: &[u64],
+    x: i64,
+) -> Result<Vec<Option<usize>>, AllocError>
+    requires len { length places.now < 2 ^ 62 }
+    requires within { All (λ i. i ≤ length minima.now) places.now }
+    ensures { IfOk result (λ v. v.items ≡ map (λ i. prev_le minima.now i x) places.now) }
+{
+    map_items(
+        rt,
+        alloc,
+        plan,
+        &OpenGate,
+        places,
+        &|i: u64| minima.prev_le(i as usize, x),
+    )
 }
 
 #[test]

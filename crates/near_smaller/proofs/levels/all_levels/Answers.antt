@@ -9,7 +9,7 @@ loop-alloc-preserved g c =
     let level = c.loop-alloc.level in
     let upper = c.in_ok-upper.upper.items in
     let now = c.loop-alloc.invariant in
-    let is : lists_of c.push.new.self.items ≡ levels ++ level.items ∷ [] = ap lists_of c.in_ok-push.ensures.items ∙ lists_more c.loop-alloc.levels.items level in
+    let is : lists_of c.push.new.self.items ≡ levels ++ level.items ∷ [] = lists_more c.loop-alloc.levels.items c.push.new.self.items level c.in_ok-push.ensures.items in
     let halved : HalvedTo level.items upper = subst (λ (l : List ℤ). HalvedTo l upper) c.deref.ensures.value c.in_ok-upper.ensures in
     let some : 1 < length level.items = (let ok = level.ok in let n = c.len.ensures in let t = c.loop-alloc-test.true in omega arith) in
     let less = fewer (length levels) (length level.items) now.few some now.size in
