@@ -35,7 +35,7 @@ fn questions<R: Threads + Abort + Sync>(
     Ok(())
 }
 
-// How many places are asked for at once.
+// How a pass asks for many places.
 fn all_before<R: Threads + Sync>(
     rt: &R,
     alloc: Global,
