@@ -4,3 +4,4 @@ pub mod Accepting
 pub mod Appending
 pub mod Meeting
 pub mod MemoryReads
+pub mod FaultLine

@@ -1,47 +1,113 @@
 -- From what was read, answered and delivered to what the program's contract says.
-use Rattle.std.proofs.Common.{◌≡◌, ℕ, zero, suc, ◌+◌, ◌⊎◌, inl, inr, arith, List, [], ◌∷◌, ◌++◌, length, take, drop, Option, Some, None, refl, sym, ap, ◌∙◌, subst, codes}
+use Rattle.std.proofs.Common.{◌≡◌, ℕ, zero, suc, ◌+◌, ◌⊎◌, inl, inr, arith, List, [], ◌∷◌, ◌++◌, length, take, drop, Option, Some, None, Result, Ok, Err, refl, sym, ap, ◌∙◌, subst, codes}
 use Rattle.std.proofs.lemmas.List.{append-nil}
 use Rattle.std.specs.Io.KnownBytes.{Appends}
 use Rattle.source_meaning.specs.Ast.{Program}
-use Rattle.verdict.specs.Verdict.{Verdict, Diagnosed, Limited, Accepted, IsVerdict, image, most_source}
+use Rattle.verdict.specs.Verdict.{Verdict, Diagnosed, Limited, Accepted, IsVerdict, image}
 use Rattle.pareas_core.specs.declared.status.Status.{Status}
 use Rattle.pareas_core.specs.declared.status.Status.TheVariants as statuses
-use Rattle.pareas_core.specs.declared.words.Command.{Command}
-use Rattle.pareas_core.specs.declared.words.Command.TheVariants.{Build}
+use Rattle.command_line.specs.declared.command.Command.{Command}
+use Rattle.command_line.specs.declared.command.Command.TheVariants.{Build, Run, Emu}
+use Rattle.elf_file.specs.declared.fault.ElfFault.{ElfFault}
+use Rattle.rv32_emul.specs.Machine.{Outcome, Exits, Faults, More, machine}
+use Rattle.simulation.specs.Behaves.{Behaves, IsFaulty, Overruns}
 use Rattle.pareas_core.specs.OneFunction.{IsOneFunction}
-use Rattle.pareas_core.specs.Output.{Due, noted, done, due_of_verdict, IsDue, not_yet, built}
+use Rattle.pareas_core.specs.Output.{Due, noted, done, due_of_verdict, due_of_machine, ReadsSource, IsDue, not_yet, built, ran, emulated}
 use Rattle.pareas_core.specs.Reading.{ReadsUpTo, WritesPrefix}
-use Rattle.pareas_core.specs.Headline.{CompilesTo, read_by, End, HasFailed, HasWorked, GotPrefix, IsWritten, IsAnswer, MeetsWords, IsResponse, IsDelivered, whole, broken_off}
+use Rattle.pareas_core.specs.Headline.{CompilesTo, RunsAs, HasRun, most_bytes, read_by, End, HasFailed, HasWorked, GotPrefix, IsWritten, IsAnswer, MeetsWords, IsResponse, IsDelivered, whole, broken_off}
 
 -- ---- what is due
 
-due_of_form : (bytes : List ℕ) (e : Due) (p : Program) → IsDue Build bytes e → IsOneFunction bytes → ((v : Verdict) → IsVerdict bytes v → v ≡ Accepted p) → e ≡ done (image p)
-due_of_form bytes _ p (not_yet n) form one = absurd (n form)
-due_of_form bytes _ p (built {v = v} f is) form one = ap (due_of_verdict (λ q. done (image q)) bytes) (one v is)
+abbrev OneVerdict : List ℕ → Type 0
+OneVerdict bytes = (v w : Verdict) → IsVerdict bytes v → IsVerdict bytes w → v ≡ w
 
-due_of_other : (bytes : List ℕ) (e : Due) → IsDue Build bytes e → ¬ IsOneFunction bytes → e ≡ noted statuses.Refused (codes "not yet")
-due_of_other bytes _ (not_yet n) other = refl
-due_of_other bytes _ (built f is) other = absurd (other f)
+other_due : (c : Command) (bytes : List ℕ) (e : Due) → ReadsSource c → IsDue c bytes e → ¬ IsOneFunction bytes → e ≡ noted statuses.Refused (codes "not yet")
+other_due _ bytes _ reads (not_yet r n) other = refl
+other_due _ bytes _ reads (built f is) other = absurd (other f)
+other_due _ bytes _ reads (ran f is) other = absurd (other f)
+other_due _ bytes _ reads emulated other = absurd reads
 
-pub compiled : (c : Command) (bytes out notes : List ℕ) → IsOneFunction bytes → CompilesTo bytes out → ((v w : Verdict) → IsVerdict bytes v → IsVerdict bytes w → v ≡ w) → notes ≡ []
-    → IsResponse c bytes (record { status = statuses.Done; out = out; notes = notes })
-compiled Build bytes out notes form k one none =
+built_due : (bytes : List ℕ) (e : Due) (p : Program) → IsDue Build bytes e → IsOneFunction bytes → ((v : Verdict) → IsVerdict bytes v → v ≡ Accepted p) → e ≡ done (image p)
+built_due bytes _ p (not_yet r n) form one = absurd (n form)
+built_due bytes _ p (built {v = v} f is) form one = ap (due_of_verdict (λ q. done (image q)) bytes) (one v is)
+
+ran_due : (steps : ℕ) (bytes : List ℕ) (e : Due) (p : Program) → IsDue (Run steps) bytes e → IsOneFunction bytes → ((v : Verdict) → IsVerdict bytes v → v ≡ Accepted p)
+    → e ≡ due_of_machine (machine (image p) steps)
+ran_due steps bytes _ p (not_yet r n) form one = absurd (n form)
+ran_due steps bytes _ p (ran {v = v} f is) form one = ap (due_of_verdict (λ q. due_of_machine (machine (image q) steps)) bytes) (one v is)
+
+emulated_due : (steps : ℕ) (bytes : List ℕ) (e : Due) → IsDue (Emu steps) bytes e → e ≡ due_of_machine (machine bytes steps)
+emulated_due steps bytes _ (not_yet r n) = absurd r
+emulated_due steps bytes _ emulated = refl
+
+-- a source of another form
+pub refused : (c : Command) (bytes : List ℕ) (d : Due) → ReadsSource c → ¬ IsOneFunction bytes → d ≡ noted statuses.Refused (codes "not yet") → IsResponse c bytes d
+refused c bytes d reads other same = record {
+  due = subst (IsDue c bytes) (sym same) (not_yet reads other);
+  only = λ e h. other_due c bytes e reads h other ∙ sym same;
+  built = λ build is_done. absurd (let e : statuses.Refused ≡ statuses.Done = ap (λ (d : Due). d.status) (sym same) ∙ is_done in cc);
+  ran = λ steps run h. absurd (not_run (subst HasRun (ap (λ (d : Due). d.status) same) h));
+}
+  where
+    not_run : HasRun statuses.Refused → ⊥
+    not_run (inl e) = cc
+    not_run (inr (inl e)) = cc
+    not_run (inr (inr e)) = cc
+
+-- an image that was built
+pub compiled : (bytes out notes : List ℕ) → IsOneFunction bytes → CompilesTo bytes out → OneVerdict bytes → notes ≡ []
+    → IsResponse Build bytes (record { status = statuses.Done; out = out; notes = notes })
+compiled bytes out notes form k one none =
     let same : done (image k.program) ≡ record { status = statuses.Done; out = out; notes = notes } = λ i. record { status = statuses.Done; out = sym k.is_image i; notes = sym none i } in
     record {
       due = subst (IsDue Build bytes) same (built form k.accepted);
-      only = λ e h. due_of_form bytes e k.program h form (λ v is. one v (Accepted k.program) is k.accepted) ∙ same;
+      only = λ e h. built_due bytes e k.program h form (λ v is. one v (Accepted k.program) is k.accepted) ∙ same;
       built = λ build is_done. k;
+      ran = λ steps run h. let e : Build ≡ Run steps = run in cc;
     }
 
-pub refused : (c : Command) (bytes out notes : List ℕ) → ¬ IsOneFunction bytes → out ≡ [] → notes ≡ codes "not yet" ++ 10 ∷ []
-    → IsResponse c bytes (record { status = statuses.Refused; out = out; notes = notes })
-refused Build bytes out notes other none text =
-    let same : noted statuses.Refused (codes "not yet") ≡ record { status = statuses.Refused; out = out; notes = notes } = λ i. record { status = statuses.Refused; out = sym none i; notes = sym text i } in
+-- where the machine's status is a fault, the machine is faulty
+faulty : (file : List ℕ) (steps : ℕ) → (due_of_machine (machine file steps)).status ≡ statuses.Machine → IsFaulty file steps
+faulty file steps h = go (machine file steps) refl h
+  where
+    go : (m : Result Outcome ElfFault) → machine file steps ≡ m → (due_of_machine m).status ≡ statuses.Machine → IsFaulty file steps
+    go (Ok (Exits value)) e h = cc
+    go (Ok (Faults kind at address)) e h = (kind, at, address, e)
+    go (Ok More) e h = cc
+    go (Err fault) e h = cc
+
+abbrev steps_in : Command → ℕ
+steps_in Build = 0
+steps_in (Run steps) = steps
+steps_in (Emu steps) = steps
+
+-- the run of an image
+pub run_through : (steps : ℕ) (bytes file : List ℕ) (d : Due) → IsOneFunction bytes → CompilesTo bytes file → OneVerdict bytes → d ≡ due_of_machine (machine file steps)
+    → IsResponse (Run steps) bytes d
+run_through steps bytes file d form k one is =
+    let same : due_of_machine (machine (image k.program) steps) ≡ d = ap (λ f. due_of_machine (machine f steps)) (sym k.is_image) ∙ sym is in
+    let behaves : Behaves k.program (image k.program) = subst (Behaves k.program) k.is_image k.behaves in
     record {
-      due = subst (IsDue Build bytes) same (not_yet other);
-      only = λ e h. due_of_other bytes e h other ∙ same;
-      built = λ build is_done. absurd (let e : statuses.Refused ≡ statuses.Done = is_done in cc);
+      due = subst (IsDue (Run steps) bytes) same (ran form k.accepted);
+      only = λ e h. ran_due steps bytes e k.program h form (λ v is. one v (Accepted k.program) is k.accepted) ∙ same;
+      built = λ build is_done. let e : Run steps ≡ Build = build in cc;
+      ran = λ n run h. record {
+        program = k.program;
+        accepted = k.accepted;
+        behaves = behaves;
+        overran = λ fault. subst (Overruns k.program (image k.program)) (ap steps_in run)
+            (behaves.overruns_only steps (faulty (image k.program) steps (ap (λ (d : Due). d.status) same ∙ fault))).0;
+      };
     }
+
+-- the run of a file
+pub emulates : (steps : ℕ) (bytes : List ℕ) (d : Due) → d ≡ due_of_machine (machine bytes steps) → IsResponse (Emu steps) bytes d
+emulates steps bytes d is = record {
+  due = subst (IsDue (Emu steps) bytes) (sym is) emulated;
+  only = λ e h. emulated_due steps bytes e h ∙ sym is;
+  built = λ build is_done. let e : Emu steps ≡ Build = build in cc;
+  ran = λ n run h. let e : Emu steps ≡ Run n = run in cc;
+}
 
 -- ---- what the outputs got
 
@@ -66,18 +132,30 @@ IsOutcome : Status → Type 0
 IsOutcome statuses.Done = Unit {0}
 IsOutcome statuses.Refused = Unit {0}
 IsOutcome statuses.Limit = Unit {0}
+IsOutcome statuses.Running = Unit {0}
+IsOutcome statuses.Machine = Unit {0}
+IsOutcome statuses.BadImage = Unit {0}
 IsOutcome s = ⊥
 
-outcome_of : (bytes : List ℕ) (v : Verdict) → IsOutcome (due_of_verdict (λ p. done (image p)) bytes v).status
+machine_outcome : (m : Result Outcome ElfFault) → IsOutcome (due_of_machine m).status
 unfolding IsOutcome
-outcome_of bytes (Diagnosed code place) = tt
-outcome_of bytes (Limited code place n) = tt
-outcome_of bytes (Accepted p) = tt
+machine_outcome (Ok (Exits value)) = tt
+machine_outcome (Ok (Faults kind at address)) = tt
+machine_outcome (Ok More) = tt
+machine_outcome (Err fault) = tt
+
+verdict_outcome : (f : Program → Due) (bytes : List ℕ) (v : Verdict) → ((p : Program) → IsOutcome (f p).status) → IsOutcome (due_of_verdict f bytes v).status
+unfolding IsOutcome
+verdict_outcome f bytes (Diagnosed code place) h = tt
+verdict_outcome f bytes (Limited code place n) h = tt
+verdict_outcome f bytes (Accepted p) h = h p
 
 outcome : (c : Command) (bytes : List ℕ) (d : Due) → IsDue c bytes d → IsOutcome d.status
 unfolding IsOutcome
-outcome _ bytes _ (not_yet n) = tt
-outcome _ bytes _ (built {v = v} f is) = outcome_of bytes v
+outcome _ bytes _ (not_yet r n) = tt
+outcome _ bytes _ (built {v = v} f is) = verdict_outcome (λ p. done (image p)) bytes v (λ p. tt)
+outcome _ bytes _ (ran {steps = steps} {v = v} f is) = verdict_outcome (λ p. due_of_machine (machine (image p) steps)) bytes v (λ p. machine_outcome (machine (image p) steps))
+outcome _ bytes _ (emulated {steps = steps}) = machine_outcome (machine bytes steps)
 
 no_outcome : (s : Status) → (s ≡ statuses.Usage) ⊎ (s ≡ statuses.ReadFault) ⊎ (s ≡ statuses.WriteFault) ⊎ (s ≡ statuses.NoMemory) → IsOutcome s → ⊥
 unfolding IsOutcome
@@ -91,9 +169,6 @@ drop_read zero xs = refl
 drop_read (suc n) [] = refl
 drop_read (suc n) (x ∷ xs) = drop_read n xs
 
-read_whole : (c : Command) (bytes all : List ℕ) → bytes ≡ take (most_source + 1) all → bytes ≡ read_by c all
-read_whole Build bytes all e = e
-
 no_words : {A : Type 0} (words : Option Command) (c : Command) → words ≡ Some c → words ≡ None → A
 no_words words c e n = let both : Some c ≡ None = sym e ∙ n in cc
 
@@ -101,10 +176,12 @@ same_command : (words : Option Command) (c d : Command) → words ≡ Some c →
 same_command words c d e f = let both : Some c ≡ Some d = sym e ∙ f in cc
 
 module _ (words : Option Command) (c : Command) (is_command : words ≡ Some c) (input : End) (bytes : List ℕ)
-    (read : ReadsUpTo (most_source + 1) input.before input.after bytes) (worked : input.faults_after ≡ input.faults_before)
+    (read : ReadsUpTo (most_bytes c + 1) input.before input.after bytes) (worked : input.faults_after ≡ input.faults_before)
     (d : Due) (response : IsResponse c bytes d) (out notes : End) where
   read_for : (e : Command) (all : List ℕ) → words ≡ Some e → input.before ≡ Some all → (c ≡ e) × (bytes ≡ read_by e all)
-  read_for e all is_e is_all = (same_command words c e is_command is_e, read_whole e bytes all (read all is_all).0)
+  read_for e all is_e is_all =
+      let same = same_command words c e is_command is_e in
+      (same, subst (λ k. bytes ≡ read_by k all) same (read all is_all).0)
 
   only_due : (e : Command) (all : List ℕ) → words ≡ Some e → input.before ≡ Some all → (f : Due) → IsDue e (read_by e all) f → d ≡ f
   only_due e all is_e is_all f h =
@@ -115,10 +192,11 @@ module _ (words : Option Command) (c : Command) (is_command : words ≡ Some c) 
   answered w e all is_e is_all =
       let r = read_for e all is_e is_all in
       record {
-        read = (read all is_all).1 ∙ ap Some (sym (ap (λ l. drop (length l) all) (sym r.1 ∙ (read all is_all).0) ∙ drop_read (most_source + 1) all));
+        read = (read all is_all).1 ∙ ap Some (sym (ap (λ l. drop (length l) all) (sym r.1 ∙ (read all is_all).0) ∙ drop_read (most_bytes c + 1) all));
         due = (d, subst (λ k. IsDue k (read_by e all) d) r.0 (subst (λ l. IsDue c l d) r.1 response.due), w);
         only = λ f h. subst (IsWritten d.status out notes) (only_due e all is_e is_all f h) w;
         built = λ build is_done. (d.out, subst (λ l. CompilesTo l d.out) r.1 (response.built (r.0 ∙ build) is_done), w.is_out);
+        ran = λ steps run h. subst (λ l. RunsAs l steps d.status) r.1 (response.ran steps (r.0 ∙ run) h);
       }
 
   met_whole : IsWritten d.status out notes d → out.faults_after ≡ out.faults_before → notes.faults_after ≡ notes.faults_before → MeetsWords words input out notes d.status
@@ -161,3 +239,26 @@ module _ (words : Option Command) (c : Command) (is_command : words ≡ Some c) 
   pub met : (status : Status) → IsDelivered d out notes status → MeetsWords words input out notes status
   met _ (whole w fo fn) = met_whole w fo fn
   met _ (broken_off f po pn) = met_broken f po pn
+
+-- a read that failed
+pub failed_read : (words : Option Command) (c : Command) → words ≡ Some c → (input out notes : End) → HasFailed input → out.after ≡ out.before → out.faults_after ≡ out.faults_before
+    → notes.after ≡ notes.before → notes.faults_after ≡ notes.faults_before → MeetsWords words input out notes statuses.ReadFault
+failed_read words c is input out notes failed out_is out_faults notes_are notes_faults = record {
+  answer = λ e all is_e is_all hi ho hn memory. absurd (not_both hi);
+  usage = no_words words c is;
+  usage_only = λ e. cc;
+  unread = no_words words c is;
+  no_output = no_words words c is;
+  read_fault = λ e. (failed, (c, is));
+  read_fault_only = λ h. inl refl;
+  write_fault = λ e. cc;
+  write_fault_only = λ h. absurd (h (out_faults, notes_faults));
+  prefix = λ e all d is_e is_all fault h. cc;
+  nothing = λ h. (unchanged out out_is, unchanged notes notes_are);
+}
+  where
+    not_both : HasWorked input → ⊥
+    not_both hi = let f = failed in let a = hi.0 in let b = hi.1 in omega arith
+
+    unchanged : (e : End) → e.after ≡ e.before → (old : List ℕ) → e.before ≡ Some old → e.after ≡ Some (old ++ [])
+    unchanged e same old known = same ∙ known ∙ ap Some (sym (append-nil old))

@@ -1,13 +1,14 @@
 -- What the compiler and the program answer.
 use Rattle.std.specs.Prelude.{◌≡◌, ◌≢◌, ℕ, ◌+◌, ◌⊎◌, List, [], ◌++◌, length, take, drop, Option, Some, None}
 use Rattle.verdict.specs.Verdict.{Accepted, IsVerdict, image, most_source}
-use Rattle.simulation.specs.Behaves.{Behaves}
+use Rattle.simulation.specs.Behaves.{Behaves, Overruns}
 use Rattle.source_meaning.specs.Ast.{Program}
 use Rattle.pareas_core.specs.declared.status.Status.{Status}
 use Rattle.pareas_core.specs.declared.status.Status.TheVariants as statuses
 use Rattle.pareas_core.specs.Causes.{Rose, Stayed}
-use Rattle.pareas_core.specs.declared.words.Command.{Command}
-use Rattle.pareas_core.specs.declared.words.Command.TheVariants.{Build}
+use Rattle.command_line.specs.declared.command.Command.{Command}
+use Rattle.command_line.specs.declared.command.Command.TheVariants.{Build, Run, Emu}
+use Rattle.elf_file.specs.Load.{most as most_image}
 use Rattle.pareas_core.specs.Output.{Due, IsDue}
 
 -- ---- the compiler
@@ -21,9 +22,27 @@ pub record CompilesTo (source file : List ℕ) : Type 0 where
 
 -- ---- the program
 
+-- a program's run by its image: the image behaves as the program on RV32IM, and a fault within the steps is the store
+-- of a stack that the program overruns
+pub record RunsAs (source : List ℕ) (steps : ℕ) (status : Status) : Type 0 where
+  pub program : Program
+  pub accepted : IsVerdict source (Accepted program)
+  pub behaves : Behaves program (image program)
+  pub overran : status ≡ statuses.Machine → Overruns program (image program) steps
+
+-- the most bytes that a command takes
+abbrev pub most_bytes : Command → ℕ
+most_bytes Build = most_source
+most_bytes (Run steps) = most_source
+most_bytes (Emu steps) = most_image
+
 -- the bytes that a command reads: those of the input, up to one past its limit
 abbrev pub read_by : Command → List ℕ → List ℕ
-read_by Build bytes = take (most_source + 1) bytes
+read_by c bytes = take (most_bytes c + 1) bytes
+
+-- the machine ran
+abbrev pub HasRun : Status → Type 0
+HasRun status = (status ≡ statuses.Done) ⊎ (status ≡ statuses.Running) ⊎ (status ≡ statuses.Machine)
 
 -- An end of the program before and after the call: its bytes, where it tells them, and its count of faults.
 -- An input tells the bytes that are left, an output those that were written.
@@ -62,6 +81,8 @@ pub record IsAnswer (c : Command) (bytes : List ℕ) (status : Status) (input ou
   pub only : (d : Due) → IsDue c (read_by c bytes) d → IsWritten status out notes d
   -- what was built is the image of the program that the source is, and behaves as that program on RV32IM
   pub built : c ≡ Build → status ≡ statuses.Done → (file : List ℕ) × CompilesTo (read_by c bytes) file × Got out file
+  -- what was run is the image of the program that the source is
+  pub ran : (steps : ℕ) → c ≡ Run steps → HasRun status → RunsAs (read_by c bytes) steps status
 
 -- The answer to words that name a command, and the status of words that name none. Each status has its cause.
 pub record MeetsWords (words : Option Command) (input out notes : End) (status : Status) : Type 0 where
@@ -92,6 +113,7 @@ pub record IsResponse (c : Command) (bytes : List ℕ) (d : Due) : Type 0 where
   pub due : IsDue c bytes d
   pub only : (e : Due) → IsDue c bytes e → e ≡ d
   pub built : c ≡ Build → d.status ≡ statuses.Done → CompilesTo bytes d.out
+  pub ran : (steps : ℕ) → c ≡ Run steps → HasRun d.status → RunsAs bytes steps d.status
 
 -- a response was written whole, or a write failed behind a prefix of it
 pub data IsDelivered (d : Due) (out notes : End) : Status → Type 0 where

@@ -1,5 +1,4 @@
 pub mod Causes
-pub mod CommandLine
 pub mod OneFunction
 pub mod Scanning
 pub mod Memory

@@ -1,9 +1,16 @@
 -- What the program writes for a command and the bytes that it read, and its status.
-use Rattle.std.specs.Prelude.{ℕ, ◌+◌, List, [], ◌∷◌, ◌++◌, take, codes, decimal, fold, count_by, ◌==◌, if◌then◌else◌}
+use Rattle.std.specs.Prelude.{ℕ, ◌+◌, ◌-◌, false, List, [], ◌∷◌, ◌++◌, length, take, replicate, codes, decimal, fold, count_by, ◌==◌, if◌then◌else◌, Result, Ok, Err}
+use Rattle.std.specs.Fmt.{signed_decimal, digits}
+use Rattle.command_line.specs.declared.command.Command.{Command}
+use Rattle.command_line.specs.declared.command.Command.TheVariants.{Build, Run, Emu}
+use Rattle.rv_isa.specs.Word.{signed}
+use Rattle.rv_isa.specs.declared.hart.FaultKind.{FaultKind}
+use Rattle.rv_isa.specs.declared.hart.FaultKind.TheVariants.{Fetch, Load, Store, Misaligned, Unknown, Call}
+use Rattle.elf_file.specs.declared.fault.ElfFault.{ElfFault}
+use Rattle.elf_file.specs.Text.{name_of}
+use Rattle.rv32_emul.specs.Machine.{Outcome, Exits, Faults, More, machine}
 use Rattle.pareas_core.specs.declared.status.Status.{Status}
-use Rattle.pareas_core.specs.declared.status.Status.TheVariants.{Done, Refused, Limit}
-use Rattle.pareas_core.specs.declared.words.Command.{Command}
-use Rattle.pareas_core.specs.declared.words.Command.TheVariants.{Build}
+use Rattle.pareas_core.specs.declared.status.Status.TheVariants.{Done, Refused, Limit, Running, Machine, BadImage}
 use Rattle.pareas_core.specs.OneFunction.{IsOneFunction}
 use Rattle.source_meaning.specs.Ast.{Program}
 use Rattle.verdict.specs.Verdict.{Verdict, Diagnosed, Limited, Accepted, IsVerdict, image}
@@ -41,8 +48,57 @@ due_of_verdict f text (Diagnosed code place) = noted Refused (codes "error " ++ 
 due_of_verdict f text (Limited code place bytes) = noted Limit (codes "limit " ++ at_place text code place)
 due_of_verdict f text (Accepted p) = f p
 
+-- ---- the machine's line
+
+abbrev pub kind_name : FaultKind → List ℕ
+kind_name Fetch = codes "fetch"
+kind_name Load = codes "load"
+kind_name Store = codes "store"
+kind_name Misaligned = codes "misaligned"
+kind_name Unknown = codes "unknown"
+kind_name Call = codes "call"
+
+-- eight lower-case hexadecimal digits
+abbrev pub hexadecimal : ℕ → List ℕ
+hexadecimal word = let ds = digits 16 false word in replicate (8 - length ds) 48 ++ ds
+
+-- the value as a signed number
+abbrev pub exit_line : ℕ → List ℕ
+exit_line value = line (codes "exit " ++ signed_decimal (signed value))
+
+-- the fault's kind, and the pc at which it happened
+abbrev pub fault_line : FaultKind → ℕ → List ℕ
+fault_line kind at = line (codes "fault " ++ kind_name kind ++ codes " at 0x" ++ hexadecimal at)
+
+-- how a run ended, or that it hasn't
+abbrev pub machine_line : Outcome → List ℕ
+machine_line (Exits value) = exit_line value
+machine_line (Faults kind at address) = fault_line kind at
+machine_line More = line (codes "running")
+
+abbrev pub status_of : Outcome → Status
+status_of (Exits value) = Done
+status_of (Faults kind at address) = Machine
+status_of More = Running
+
+-- a run prints the machine's line; a file that isn't loaded is refused
+abbrev pub due_of_machine : Result Outcome ElfFault → Due
+due_of_machine (Ok outcome) = record { status = status_of outcome; out = machine_line outcome; notes = [] }
+due_of_machine (Err fault) = noted BadImage (codes "image " ++ name_of fault)
+
+-- ---- what is due
+
+-- the command reads a source
+abbrev pub ReadsSource : Command → Type 0
+ReadsSource Build = Unit {0}
+ReadsSource (Run steps) = Unit {0}
+ReadsSource (Emu steps) = ⊥
+
 -- What is due for a command and the bytes that it read. Workers, chunks and gate have no part in it.
 -- Sources of another form than the first are not compiled yet.
 pub data IsDue : Command → List ℕ → Due → Type 0 where
-  not_yet : {bytes : List ℕ} → ¬ IsOneFunction bytes → IsDue Build bytes (noted Refused (codes "not yet"))
+  not_yet : {c : Command} {bytes : List ℕ} → ReadsSource c → ¬ IsOneFunction bytes → IsDue c bytes (noted Refused (codes "not yet"))
   built : {bytes : List ℕ} {v : Verdict} → IsOneFunction bytes → IsVerdict bytes v → IsDue Build bytes (due_of_verdict (λ p. done (image p)) bytes v)
+  ran : {steps : ℕ} {bytes : List ℕ} {v : Verdict} → IsOneFunction bytes → IsVerdict bytes v →
+      IsDue (Run steps) bytes (due_of_verdict (λ p. due_of_machine (machine (image p) steps)) bytes v)
+  emulated : {steps : ℕ} {bytes : List ℕ} → IsDue (Emu steps) bytes (due_of_machine (machine bytes steps))

@@ -4,6 +4,7 @@
 mod compiler;
 mod ends;
 mod image;
+mod machine;
 mod memory;
 mod one_function;
 mod program;
@@ -11,7 +12,6 @@ mod reading;
 mod refusal;
 mod response;
 mod status;
-mod words;
 mod writing;
 
 pub use compiler::compile;
@@ -20,7 +20,6 @@ pub use memory::{MemoryIn, MemoryOut};
 pub use program::pareas;
 pub use refusal::Refusal;
 pub use status::Status;
-pub use words::Command;
 
 #[cfg(test)]
 mod tests;

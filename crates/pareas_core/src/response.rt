@@ -1,15 +1,19 @@
 // What the program answers to a command and the bytes that it read.
 
-ghost use Rattle.std.specs.Prelude.{◌≡◌, IfOk, OnOk};
+ghost use Rattle.std.specs.Prelude.{◌≡◌, IfOk, OnOk, codes};
+ghost use Rattle.command_line.specs.declared.command.Command.TheVariants.{Build, Run};
+ghost use Rattle.pareas_core.specs.declared.status.Status.TheVariants.{Refused};
+ghost use Rattle.pareas_core.specs.Output.{noted};
 ghost use Rattle.pareas_core.specs.Headline.{IsDelivered, IsResponse};
 
 use crate::compiler::compile;
 use crate::ends::ByteOut;
+use crate::machine::emulate;
 use crate::refusal::Refusal;
 use crate::status::Status;
-use crate::words::Command;
 use crate::writing::write_all;
 use chunk_seats::{Gate, Plan};
+use command_line::Command;
 use std::alloc::{AllocError, Global};
 use std::marker::Model;
 use std::thread::Threads;
@@ -31,6 +35,58 @@ impl Model for Response {
     ghost view = { λ r. record { status = r.status; out = r.out.items; notes = r.notes.items } };
 }
 
+// The refusal of a source of a form that isn't compiled yet.
+fn not_yet(alloc: Global) -> Result<Response, AllocError>
+    ensures { IfOk result (λ response. response ≡ noted Refused (codes "not yet")) }
+{
+    Ok(Response {
+        status: Status::Refused,
+        out: Vec::new(alloc),
+        notes: b"not yet\n".to_vec(alloc)?,
+    })
+}
+
+// The image of the source.
+fn build<R: Threads + Sync, G: Gate>(
+    rt: &R,
+    alloc: Global,
+    plan: &Plan,
+    gate: &G,
+    source: &[u8],
+) -> Result<Response, AllocError>
+    ensures { IfOk result (λ response. IsResponse Build source.now response) }
+{
+    one_verdict();
+    match compile(rt, alloc, plan, gate, source) {
+        Ok(file) => Ok(Response {
+            status: Status::Done,
+            out: file,
+            notes: Vec::new(alloc),
+        }),
+        Err(Refusal::NotYet) => not_yet(alloc),
+        Err(Refusal::NoMemory) => Err(AllocError),
+    }
+}
+
+// How the image of the source runs.
+fn run<R: Threads + Sync, G: Gate>(
+    rt: &R,
+    alloc: Global,
+    plan: &Plan,
+    gate: &G,
+    source: &[u8],
+    steps: u32,
+) -> Result<Response, AllocError>
+    ensures { IfOk result (λ response. IsResponse (Run steps) source.now response) }
+{
+    one_verdict();
+    match compile(rt, alloc, plan, gate, source) {
+        Ok(file) => emulate(alloc, &file, steps),
+        Err(Refusal::NotYet) => not_yet(alloc),
+        Err(Refusal::NoMemory) => Err(AllocError),
+    }
+}
+
 /// The answer to a command for the bytes that it read.
 pub(crate) fn respond<R: Threads + Sync, G: Gate>(
     rt: &R,
@@ -42,21 +98,10 @@ pub(crate) fn respond<R: Threads + Sync, G: Gate>(
 ) -> Result<Response, AllocError>
     ensures { IfOk result (λ response. IsResponse command bytes.now response) }
 {
-    one_verdict();
     match command {
-        Command::Build => match compile(rt, alloc, plan, gate, bytes) {
-            Ok(file) => Ok(Response {
-                status: Status::Done,
-                out: file,
-                notes: Vec::new(alloc),
-            }),
-            Err(Refusal::NotYet) => Ok(Response {
-                status: Status::Refused,
-                out: Vec::new(alloc),
-                notes: b"not yet\n".to_vec(alloc)?,
-            }),
-            Err(Refusal::NoMemory) => Err(AllocError),
-        },
+        Command::Build => build(rt, alloc, plan, gate, bytes),
+        Command::Run { steps } => run(rt, alloc, plan, gate, bytes, steps),
+        Command::Emu { steps } => emulate(alloc, bytes, steps),
     }
 }
 

@@ -7,7 +7,7 @@ pub enum Status {
     Done = 0,
     /// The source has a diagnostic.
     Refused = 1,
-    /// The words name no command.
+    /// The words are refused, or ask for help or the version.
     Usage = 2,
     /// A read failed.
     ReadFault = 3,
@@ -17,4 +17,10 @@ pub enum Status {
     Limit = 5,
     /// Out of memory.
     NoMemory = 6,
+    /// The machine is still running after its last step.
+    Running = 7,
+    /// The machine has faulted.
+    Machine = 8,
+    /// The file isn't an image that can be loaded.
+    BadImage = 10,
 }

@@ -2,6 +2,7 @@ ghost use Rattle.std.specs.Prelude.{◌≤◌};
 
 use super::*;
 use chunk_seats::OpenGate;
+use elf_file::write;
 use std::alloc::{AllocError, Global};
 use std::process::Abort;
 use std::test::Fail;
@@ -156,20 +157,130 @@ fn refuses_other_sources_and_words(rt: HostRuntime) -> Result<(), Fail> {
     )?;
     let spaces = vec![in rt.alloc(); b' '; 1_048_577]?;
     expect(&rt, rt.alloc(), &BUILD, &spaces, &SOUND, not_yet)?;
-    let usage: (Status, &[u8], &[u8]) = (
-        Status::Usage,
-        b"",
-        b"usage: pareas build < SOURCE > IMAGE\n",
+    Ok(())
+}
+
+/// Sees that the words are refused: nothing goes to the output, and a text that begins so to the notes.
+fn expect_refusal<R: Threads + Abort + Sync>(
+    rt: &R,
+    alloc: Global,
+    words: &[&str],
+    beginning: &[u8],
+) -> Result<(), AllocError> {
+    let words = words_of(alloc, words)?;
+    let mut input = MemoryIn::new(SEVEN.to_vec(alloc)?, 4096, Vec::new(alloc));
+    let mut out = MemoryOut::new(alloc, 4096, Vec::new(alloc));
+    let mut notes = MemoryOut::new(alloc, 4096, Vec::new(alloc));
+    let ended = pareas(
+        rt, alloc, &words, &mut input, &mut out, &mut notes, &OpenGate,
     );
-    expect(&rt, rt.alloc(), &["pareas"], SEVEN, &SOUND, usage)?;
-    expect(
-        &rt,
-        rt.alloc(),
-        &["pareas", "build", "--chunk", "7"],
-        SEVEN,
-        &SOUND,
-        usage,
-    )?;
+    assert_eq!(rt; ended, Status::Usage);
+    assert!(rt; out.written().is_empty());
+    assert!(rt; notes.written().starts_with(beginning));
+    Ok(())
+}
+
+#[test]
+fn refuses_words(rt: HostRuntime) -> Result<(), Fail> {
+    let rows: [(&[&str], &[u8]); 7] = [
+        (&["pareas"], b"error: 'pareas' requires a subcommand"),
+        (
+            &["pareas", "bild"],
+            b"error: unrecognized subcommand 'bild'",
+        ),
+        (
+            &["pareas", "build", "--workers", "65"],
+            b"error: invalid value '65'",
+        ),
+        (
+            &["pareas", "build", "--chunk", "0"],
+            b"error: invalid value '0'",
+        ),
+        (&["pareas", "run", "--steps"], b"error: a value is required"),
+        (&["pareas", "--help"], b"A parallel compiler"),
+        (&["pareas", "--version"], b"pareas 0.1.0\n"),
+    ];
+    for (words, beginning) in rows {
+        expect_refusal(&rt, rt.alloc(), words, beginning)?;
+    }
+    Ok(())
+}
+
+#[test]
+fn builds_the_same_for_every_plan(rt: HostRuntime) -> Result<(), Fail> {
+    for workers in ["1", "4", "64"] {
+        for chunk in ["1", "7", "65536"] {
+            let words = ["pareas", "build", "--workers", workers, "--chunk", chunk];
+            let done: (Status, &[u8], &[u8]) = (Status::Done, &SEVEN_FILE, b"");
+            expect(&rt, rt.alloc(), &words, SEVEN, &SOUND, done)?;
+        }
+    }
+    Ok(())
+}
+
+#[test]
+fn runs_for_so_many_steps(rt: HostRuntime) -> Result<(), Fail> {
+    let rows: [(&str, Status, &[u8]); 3] = [
+        ("14", Status::Done, b"exit 7\n"),
+        ("13", Status::Running, b"running\n"),
+        ("0", Status::Running, b"running\n"),
+    ];
+    for (steps, status, out) in rows {
+        let words = ["pareas", "run", "--steps", steps];
+        expect(&rt, rt.alloc(), &words, SEVEN, &SOUND, (status, out, b""))?;
+    }
+    let not_yet: (Status, &[u8], &[u8]) = (Status::Refused, b"", b"not yet\n");
+    expect(&rt, rt.alloc(), &["pareas", "run"], b"", &SOUND, not_yet)?;
+    Ok(())
+}
+
+const EMU: [&str; 2] = ["pareas", "emu"];
+
+#[test]
+fn emulates_images(rt: HostRuntime) -> Result<(), Fail> {
+    let mut other_machine = SEVEN_FILE;
+    other_machine[18] = 0;
+    let rows: [(&[u8], Status, &[u8], &[u8]); 4] = [
+        (&SEVEN_FILE, Status::Done, b"exit 7\n", b""),
+        (
+            &SEVEN_FILE[..143],
+            Status::BadImage,
+            b"",
+            b"image Segment 0\n",
+        ),
+        (&SEVEN_FILE[..51], Status::BadImage, b"", b"image Short\n"),
+        (&other_machine, Status::BadImage, b"", b"image Machine\n"),
+    ];
+    for (file, status, out, notes) in rows {
+        expect(&rt, rt.alloc(), &EMU, file, &SOUND, (status, out, notes))?;
+    }
+    Ok(())
+}
+
+/// Images of one word or two that fault.
+#[test]
+fn tells_faults(rt: HostRuntime) -> Result<(), Fail> {
+    let rows: [(&[u32], &[u8]); 8] = [
+        (&[0x0020_2283], b"fault misaligned at 0x00010054\n"),
+        (&[0x0000_2283], b"fault load at 0x00010054\n"),
+        (&[0x0000_2023], b"fault store at 0x00010054\n"),
+        (&[0x0000_0000], b"fault unknown at 0x00010054\n"),
+        (&[0x0010_0073], b"fault call at 0x00010054\n"),
+        (&[0x0000_0073], b"fault call at 0x00010054\n"),
+        (&[0x0020_00ef], b"fault misaligned at 0x00010054\n"),
+        (&[0x0000_0067], b"fault fetch at 0x00000000\n"),
+    ];
+    for (code, out) in rows {
+        let file = write(rt.alloc(), code)?;
+        expect(
+            &rt,
+            rt.alloc(),
+            &EMU,
+            &file,
+            &SOUND,
+            (Status::Machine, out, b""),
+        )?;
+    }
     Ok(())
 }
 

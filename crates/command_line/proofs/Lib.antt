@@ -1,0 +1,6 @@
+mod Plain
+mod Rows
+mod Levels
+mod Taken
+mod Matched
+mod Numbers

@@ -1,0 +1,72 @@
+-- What a parse met, by the words alone.
+use Rattle.std.proofs.Common.{◌≡◌, ◌∙◌, ℕ, Bool, cond, true, refl, sym, ap, ap₂, subst, arith, List, [], ◌∷◌, Option, Some, None, unwrap_or}
+use Rattle.std.specs.Prelude.{option_map, if◌then◌else◌}
+use Rattle.std.proofs.lemmas.Bool.{ne_eqb}
+use Rattle.clap.specs.Kinds.{IsAmong, Kinds}
+use Rattle.clap.specs.Simple.{App, HasMatchesOf, is_simple, subcommand_of, subcommand_rows_of}
+use Rattle.clap.specs.Faults.{fault_of, is_simple_and_free}
+use Rattle.clap.specs.Walk.{Text, Row, is_empty}
+use Rattle.clap.specs.declared.parser.matches.ArgMatches.{ArgMatches}
+use Rattle.clap.specs.declared.error.kind.ErrorKind.{ErrorKind}
+use Rattle.command_line.specs.Words.{Asked, app, asked, asked_by}
+use Rattle.command_line.specs.Ranges.{HasNumbers}
+use Rattle.command_line.proofs.Taken.{taken}
+
+pub app_is_free : is_simple_and_free app ≡ true
+app_is_free = refl
+
+app_is_simple : is_simple app ≡ true
+app_is_simple = refl
+
+-- words with a fault ask for nothing
+pub asked_none : (words : List Text) (k : ErrorKind) → IsAmong k (fault_of app words) → asked words ≡ None
+asked_none words k h = go (fault_of app words) h
+  where
+    go : (f : Kinds) → IsAmong k f → cond (is_empty f) (option_map (λ s. asked_by s.0 s.1) (subcommand_of app words)) None ≡ None
+    go [] h = absurd h
+    go (x ∷ xs) h = ap (λ b. cond b (option_map (λ s. asked_by s.0 s.1) (subcommand_of app words)) None) (ne_eqb _ _ (λ e. absurd (omega arith)))
+
+asked_some : (words : List Text) (s : Text × List Row) → fault_of app words ≡ [] → subcommand_of app words ≡ Some s → asked words ≡ Some (asked_by s.0 s.1)
+asked_some words s none is = rw (none, is) refl
+
+-- the subcommand that was met
+pub record Met (words : List Text) (m : ArgMatches) : Type 0 where
+  pub name : Text
+  pub rows : List Row
+  pub is_met : subcommand_rows_of m ≡ Some (name, rows)
+  pub numbers : HasNumbers rows name
+  pub is_asked : asked words ≡ Some (asked_by name rows)
+
+pub met : (a : App) (ws words : List Text) (m : ArgMatches) → a ≡ app → ws ≡ words → fault_of a ws ≡ [] → HasMatchesOf a ws m → Met words m
+met a ws words m a_is ws_are none has =
+    let no_fault : fault_of app words ≡ [] = sym (ap₂ fault_of a_is ws_are) ∙ none in
+    let got = taken words no_fault in
+    record {
+      name = got.0.0;
+      rows = got.0.1;
+      is_met = (has (ap is_simple a_is ∙ app_is_simple)).1 ∙ ap₂ subcommand_of a_is ws_are ∙ got.1;
+      numbers = got.2;
+      is_asked = asked_some words got.0 no_fault got.1;
+    }
+
+pub mapped_twice : {X Y Z : Type 0} (f : Y → Z) (g : X → Y) (o : Option X) → option_map (λ x. f (g x)) o ≡ option_map f (option_map g o)
+mapped_twice f g None = refl
+mapped_twice f g (Some x) = refl
+
+-- what the getter of a subcommand gives
+pub record Got (words : List Text) (name : Text) (rows : List Row) : Type 0 where
+  pub numbers : HasNumbers rows name
+  pub is_asked : asked words ≡ Some (asked_by name rows)
+
+pub got : (words : List Text) (m : ArgMatches) (name : Text) (rows : List Row) → Met words m → option_map (λ s. s.0) (subcommand_rows_of m) ≡ Some name
+    → option_map (λ s. s.1) (subcommand_rows_of m) ≡ Some rows → Got words name rows
+got words m name rows x name_is rows_is =
+    let same_name : x.name ≡ name = ap (λ o. unwrap_or o name) (sym (ap (option_map (λ s. s.0)) x.is_met) ∙ name_is) in
+    let same_rows : x.rows ≡ rows = ap (λ o. unwrap_or o rows) (sym (ap (option_map (λ s. s.1)) x.is_met) ∙ rows_is) in
+    record {
+      numbers = subst (λ n. HasNumbers rows n) same_name (subst (λ rs. HasNumbers rs x.name) same_rows x.numbers);
+      is_asked = x.is_asked ∙ ap₂ (λ n rs. Some (asked_by n rs)) same_name same_rows;
+    }
+
+pub some_same : {X : Type 0} (o : Option X) (x y : X) → o ≡ Some x → o ≡ Some y → x ≡ y
+some_same o x y e f = ap (λ p. unwrap_or p x) (sym e ∙ f)

@@ -1,0 +1,48 @@
+-- The number of an option is read from its text.
+use Rattle.std.proofs.Common.{◌≡◌, ◌∙◌, ℕ, ◌<◌, ◌≤◌, ◌^◌, refl, sym, ap, arith, List, Option, Some, None, Result, Ok, Err, unwrap_or, OkIff, codes, length, slice_index}
+use Rattle.std.specs.Prelude.{option_map}
+use Rattle.std.specs.Option.{IsSome}
+use Rattle.std.specs.Result.{IsOk}
+use Rattle.std.specs.Str.Parse.{ParsesUnsigned, digits_value, without_leading_plus}
+use Rattle.clap.specs.Values.{IsUnsignedIn}
+use Rattle.clap.specs.Walk.{Text, Row}
+use Rattle.command_line.specs.Ranges.{HasPlan, HasNumbers, of_build, of_run, of_emu}
+
+pub shown : {X Y : Type 0} (f : X → Y) (o : Option X) (y : Y) → option_map f o ≡ Some y → (x : X) × (o ≡ Some x) × (f x ≡ y)
+shown f None y h = cc
+shown f (Some x) y h = (x, refl, ap (λ o. unwrap_or o (f x)) h)
+
+pub is_some_of : {X : Type 0} (o : Option X) (x : X) → o ≡ Some x → IsSome o
+is_some_of o x e = rw e refl
+
+pub read_whole : {T E : Type 0} (r : Result T E) (P : Type 0) (v : T) → OkIff r P v → P → r ≡ Ok v
+read_whole (Ok x) P v h p = ap Ok h.1
+read_whole (Err e) P v h p = absurd (h p)
+
+pub number_read : {E : Type 0} (text : List ℕ) (r : Result ℕ E) → ParsesUnsigned 32 10 text r → IsUnsignedIn 0 4294967295 text
+    → r ≡ Ok (digits_value 10 (without_leading_plus text))
+number_read text r h range =
+    let small : digits_value 10 (without_leading_plus text) ≤ 4294967295 = range.3 in
+    read_whole r _ _ h (range.0, omega arith)
+
+pub is_ok_of : {T E : Type 0} (r : Result T E) (x : T) → r ≡ Ok x → IsOk r
+is_ok_of r x e = rw e refl
+
+ok_value : {T E : Type 0} → T → Result T E → T
+ok_value d (Ok x) = x
+ok_value d (Err e) = d
+
+pub ok_same : {T E : Type 0} (r : Result T E) (x y : T) → r ≡ Ok x → r ≡ Ok y → x ≡ y
+unfolding ok_value
+ok_same r x y e f = ap (ok_value x) (sym e ∙ f)
+
+five_is_not_three : ◌≡◌ {A = ℕ} 5 3 → ⊥
+five_is_not_three e = absurd (omega arith)
+
+e_is_not_r : ◌≡◌ {A = ℕ} 101 114 → ⊥
+e_is_not_r e = absurd (omega arith)
+
+pub run_plan : (rows : List Row) (name : Text) → HasNumbers rows name → name ≡ codes "run" → HasPlan rows
+run_plan rows name (of_build plan) e = absurd (five_is_not_three (ap length e))
+run_plan rows name (of_run plan steps) e = plan
+run_plan rows name (of_emu steps) e = absurd (e_is_not_r (ap (λ (t : Text). slice_index t 0) e))

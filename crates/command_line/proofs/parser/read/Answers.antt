@@ -1,0 +1,34 @@
+use Rattle.std.proofs.Common.{rules, ◌≡◌, ◌∙◌, ap, ap₂, refl, sym, subst, inl, inr, List, [], ◌∷◌, Option, Some, None, map, string_bytes, ℕ}
+use Rattle.std.specs.Prelude.{option_map}
+use Rattle.clap.specs.Words.{app_of, found_of, rows_of, kind_of, is_simple_and_free, fault_of, IsAmong, subcommand_rows_of}
+use Rattle.clap.specs.Walk.{Text, Row}
+use Rattle.command_line.specs.Words.{app, asked, asked_by}
+use Rattle.command_line.specs.Ranges.{HasNumbers}
+use Rattle.command_line.proofs.Matched.{app_is_free, asked_none, met, got, mapped_twice}
+use Rattle.command_line.proofs.parser.read.Goals as goal
+
+pub returns-in-Err-clause-refused : goal.returns-in-Err-clause-refused
+returns-in-Err-clause-refused c = λ usage.
+    let app_is : app_of c.in_ok-command.command ≡ app = c.in_ok-command.ensures in
+    elim (c.in-Err.ensures.kinds (ap is_simple_and_free app_is ∙ app_is_free)) [
+      | inl memory ↦ absurd (c.refused_by.ensures usage memory)
+      | inr among ↦ asked_none (map string_bytes c.args.words.now) (kind_of c.in-Err.error) (subst (λ a. IsAmong (kind_of c.in-Err.error) (fault_of a (map string_bytes c.args.words.now))) app_is among)
+    ]
+
+pub request-requires : goal.request-requires
+request-requires c =
+    let app_is : app_of c.in_ok-command.command ≡ app = c.in_ok-command.ensures in
+    let words = map string_bytes c.args.words.now in
+    let one = met _ words words c.in-Ok.matches app_is refl (c.in-Ok.ensures.kinds (ap is_simple_and_free app_is ∙ app_is_free)) c.in-Ok.ensures.matches in
+    let name = sym (mapped_twice _ _ _) ∙ sym c.subcommand.ensures.name ∙ ap (option_map (λ p. p.0.now)) c.unwrap.ensures in
+    let rows = sym c.subcommand.ensures.rows ∙ ap (option_map (λ p. rows_of (found_of p.1.now))) c.unwrap.ensures in
+    (got words c.in-Ok.matches c.unwrap.result.0.now (rows_of (found_of c.unwrap.result.1.now)) one name rows).numbers
+
+pub returns-clause-asked : goal.returns-clause-asked
+returns-clause-asked c =
+    let app_is : app_of c.in_ok-command.command ≡ app = c.in_ok-command.ensures in
+    let words = map string_bytes c.args.words.now in
+    let one = met _ words words c.in-Ok.matches app_is refl (c.in-Ok.ensures.kinds (ap is_simple_and_free app_is ∙ app_is_free)) c.in-Ok.ensures.matches in
+    let name = sym (mapped_twice _ _ _) ∙ sym c.subcommand.ensures.name ∙ ap (option_map (λ p. p.0.now)) c.unwrap.ensures in
+    let rows = sym c.subcommand.ensures.rows ∙ ap (option_map (λ p. rows_of (found_of p.1.now))) c.unwrap.ensures in
+    (got words c.in-Ok.matches c.unwrap.result.0.now (rows_of (found_of c.unwrap.result.1.now)) one name rows).is_asked ∙ ap Some (sym c.request.ensures)

@@ -1,0 +1,23 @@
+-- The numbers of options lie in their ranges.
+use Rattle.std.specs.Prelude.{◌≡◌, ℕ, ◌≤◌, List, Some, true, codes, bytes_eq, if◌then◌else◌, IsTrue}
+use Rattle.std.specs.Str.Parse.{digits_value, without_leading_plus}
+use Rattle.clap.specs.Values.{IsUnsignedIn}
+use Rattle.clap.specs.Walk.{Text, Row, first_of}
+
+-- the option has a number from low to high
+pub record HasNumber (name : Text) (low high : ℕ) (rows : List Row) : Type 0 where
+  pub text : Text
+  pub is_first : first_of name rows ≡ Some text
+  pub in_range : IsUnsignedIn low high text
+
+abbrev pub HasPlan : List Row → Type 0
+HasPlan rows = HasNumber (codes "workers") 1 64 rows × HasNumber (codes "chunk") 1 65536 rows
+
+abbrev pub HasSteps : List Row → Type 0
+HasSteps rows = HasNumber (codes "steps") 0 1000000000 rows
+
+-- a subcommand and its options
+pub data HasNumbers (rows : List Row) : Text → Type 0 where
+  of_build : HasPlan rows → HasNumbers rows (codes "build")
+  of_run : HasPlan rows → HasSteps rows → HasNumbers rows (codes "run")
+  of_emu : HasSteps rows → HasNumbers rows (codes "emu")

@@ -1,0 +1,82 @@
+-- The program's command line, as a command of `clap`, and what its words ask for.
+use Rattle.std.specs.Prelude.{ℕ, true, false, List, [], ◌∷◌, Option, Some, None, option_map, codes, unwrap_or, decimal, bytes_eq, if◌then◌else◌}
+use Rattle.std.specs.Str.Parse.{digits_value, without_leading_plus}
+use Rattle.clap.specs.Walk.{Text, Rule, Row, first_of, is_empty}
+use Rattle.clap.specs.Simple.{Shape, App, new_shape, new_rule, subcommand_of}
+use Rattle.clap.specs.Faults.{fault_of}
+use Rattle.clap.specs.declared.builder.action.ArgAction.TheVariants.{Set}
+use Rattle.clap.specs.declared.builder.value_parser.ValueParser.{ValueParser}
+use Rattle.clap.specs.declared.builder.value_parser.ValueParser.TheVariants as parsers
+use Rattle.command_line.specs.declared.command.Command.{Command}
+use Rattle.command_line.specs.declared.command.Command.TheVariants.{Build, Run, Emu}
+
+-- ---- the command
+
+-- an option `--name N` with a number, and its default
+abbrev pub number_option : Text → ValueParser → Text → Rule
+number_option name numbers default = record (new_rule name) {
+  long = Some name;
+  action = Some Set;
+  value_names = 1;
+  defaults = default ∷ [];
+  parser = Some numbers;
+}
+
+abbrev pub workers_option : Rule
+workers_option = number_option (codes "workers") (parsers.Unsigned 1 64) (codes "4")
+
+abbrev pub chunk_option : Rule
+chunk_option = number_option (codes "chunk") (parsers.Unsigned 1 65536) (codes "1024")
+
+abbrev pub steps_option : Rule
+steps_option = number_option (codes "steps") (parsers.Unsigned 0 1000000000) (codes "1000000")
+
+abbrev pub subcommand : Text → List Rule → Shape
+subcommand name options = record (new_shape name) { rules = options }
+
+abbrev pub build_shape : Shape
+build_shape = subcommand (codes "build") (workers_option ∷ chunk_option ∷ [])
+
+abbrev pub run_shape : Shape
+run_shape = subcommand (codes "run") (workers_option ∷ chunk_option ∷ steps_option ∷ [])
+
+abbrev pub emu_shape : Shape
+emu_shape = subcommand (codes "emu") (steps_option ∷ [])
+
+-- `pareas`: one of its subcommands is required
+abbrev pub app : App
+app = record {
+  top = record (new_shape (codes "pareas")) { subcommand_required = true; has_version = true; is_leaf = false };
+  subs = build_shape ∷ run_shape ∷ emu_shape ∷ [];
+}
+
+-- ---- what words ask for
+
+-- the number of an option
+abbrev pub number_at : Text → List Row → ℕ
+number_at name rows = digits_value 10 (without_leading_plus (unwrap_or (first_of name rows) []))
+
+-- a command, and how its work is shared out
+pub record Asked : Type 0 where
+  pub command : Command
+  pub workers : ℕ
+  pub chunk : ℕ
+
+abbrev pub shared_out : Command → List Row → Asked
+shared_out command rows =
+    record { command = command; workers = number_at (codes "workers") rows; chunk = number_at (codes "chunk") rows }
+
+-- what a subcommand asks for with its options; `emu` has no options for sharing
+abbrev pub asked_by : Text → List Row → Asked
+asked_by name rows =
+    if bytes_eq name (codes "build") then shared_out Build rows
+    else if bytes_eq name (codes "run") then shared_out (Run (number_at (codes "steps") rows)) rows
+    else record { command = Emu (number_at (codes "steps") rows); workers = 1; chunk = 1 }
+
+-- what words ask for, of which the first is the program's name; none exactly where clap finds a fault in them
+abbrev pub asked : List Text → Option Asked
+asked words = if is_empty (fault_of app words) then option_map (λ s. asked_by s.0 s.1) (subcommand_of app words) else None
+
+-- their command alone: what is due hangs on nothing else of them
+abbrev pub command_of : List Text → Option Command
+command_of words = option_map (λ a. a.command) (asked words)

@@ -1,0 +1,18 @@
+// What the program can be asked to do.
+
+/// What the program is asked to do.
+#[derive(Clone, Copy, PartialEq, Eq, Debug)]
+pub enum Command {
+    /// Compiles the source on the input to an executable file on the output.
+    Build,
+    /// Compiles the source on the input, and runs its file on the machine for at most so many steps.
+    Run {
+        /// The most steps.
+        steps: u32,
+    },
+    /// Runs the executable file on the input on the machine for at most so many steps.
+    Emu {
+        /// The most steps.
+        steps: u32,
+    },
+}

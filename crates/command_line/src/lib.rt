@@ -1,0 +1,14 @@
+//! The command line of `pareas`, read by `clap`.
+#![tactic(auto)]
+
+mod command;
+mod options;
+mod parser;
+mod request;
+
+pub use command::Command;
+pub use parser::{Refusal, read};
+pub use request::Request;
+
+#[cfg(test)]
+mod tests;

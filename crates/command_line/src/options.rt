@@ -1,0 +1,105 @@
+// The command, its subcommands and options, as `clap` builds them.
+
+ghost use Rattle.std.specs.Prelude.{◌≡◌, IfOk, false};
+ghost use Rattle.clap.specs.Words.{app_of, rule_of, shape_of};
+ghost use Rattle.command_line.specs.Words.{app, build_shape, run_shape, emu_shape, workers_option, chunk_option, steps_option, number_option};
+
+use clap::builder::ValueParser;
+use clap::{Arg, ArgAction, Command, value_parser};
+use std::alloc::{AllocError, Global};
+
+// An option `--name N` with a number, and its default.
+fn number_option<'a>(
+    alloc: Global,
+    name: &'a str,
+    letter: &'a str,
+    numbers: ValueParser<'a>,
+    default: &'a str,
+    help: &'a str,
+) -> Arg<'a>
+    ensures rule { rule_of result ≡ number_option name.entry.now numbers.entry default.entry.now }
+    ensures local { result.global ≡ false }
+{
+    Arg::new(alloc, name)
+        .long(name)
+        .action(ArgAction::Set)
+        .value_name(letter)
+        .value_parser(numbers)
+        .default_value(default)
+        .help(help)
+}
+
+fn workers<'a>(alloc: Global) -> Arg<'a>
+    ensures rule { rule_of result ≡ workers_option }
+    ensures local { result.global ≡ false }
+{
+    let numbers = value_parser!(u64).range(1..=64);
+    let help = "Threads that share the work, 1 to 64";
+    number_option(alloc, "workers", "N", numbers, "4", help)
+}
+
+fn chunk<'a>(alloc: Global) -> Arg<'a>
+    ensures rule { rule_of result ≡ chunk_option }
+    ensures local { result.global ≡ false }
+{
+    let numbers = value_parser!(u64).range(1..=65_536);
+    let help = "Items that a thread draws at a time, 1 to 65536";
+    number_option(alloc, "chunk", "C", numbers, "1024", help)
+}
+
+fn steps<'a>(alloc: Global) -> Arg<'a>
+    ensures rule { rule_of result ≡ steps_option }
+    ensures local { result.global ≡ false }
+{
+    let numbers = value_parser!(u64).range(0..=1_000_000_000);
+    let help = "Steps after which the machine stops, 0 to 1000000000";
+    number_option(alloc, "steps", "M", numbers, "1000000", help)
+}
+
+fn build<'a>(alloc: Global) -> Result<Command<'a>, AllocError>
+    ensures { IfOk result (λ c. shape_of c ≡ build_shape) }
+{
+    Command::new(alloc, "build")
+        .about(
+            "Compiles a program: source on standard input, ELF file for RV32IM on standard output",
+        )
+        .arg(workers(alloc))?
+        .arg(chunk(alloc))
+}
+
+fn run<'a>(alloc: Global) -> Result<Command<'a>, AllocError>
+    ensures { IfOk result (λ c. shape_of c ≡ run_shape) }
+{
+    Command::new(alloc, "run")
+        .about(
+            "Compiles a program from standard input and runs it on the emulator: prints how it ends",
+        )
+        .arg(workers(alloc))?
+        .arg(chunk(alloc))?
+        .arg(steps(alloc))
+}
+
+fn emu<'a>(alloc: Global) -> Result<Command<'a>, AllocError>
+    ensures { IfOk result (λ c. shape_of c ≡ emu_shape) }
+{
+    Command::new(alloc, "emu")
+        .about(
+            "Runs an ELF file for RV32IM from standard input on the emulator: prints how it ends",
+        )
+        .arg(steps(alloc))
+}
+
+/// The command line as `clap` reads it.
+pub(crate) fn command<'a>(alloc: Global) -> Result<Command<'a>, AllocError>
+    ensures { IfOk result (λ c. app_of c ≡ app) }
+{
+    Command::new(alloc, "pareas")
+        .version("0.1.0")
+        .about(
+            "A parallel compiler of a small C-like language to RV32IM, proved correct, and an emulator",
+        )
+        .subcommand_required(true)
+        .subcommand(build(alloc)?)?
+        .subcommand(run(alloc)?)?
+        .subcommand(emu(alloc)?)
+}

@@ -1,0 +1,107 @@
+// From the words to what they ask for.
+
+ghost use Rattle.std.specs.Prelude.{◌≡◌, Some, None, IfOk, map, string_bytes, codes, IfErr};
+ghost use Rattle.clap.specs.Words.{first_of, found_of, rows_of, kind_of};
+ghost use Rattle.command_line.specs.Ranges.{HasNumber, HasPlan, HasSteps, HasNumbers};
+ghost use Rattle.command_line.specs.Words.{asked, asked_by, number_at};
+ghost use Rattle.command_line.specs.Refused.{IsUsage};
+ghost use Rattle.clap.specs.declared.error.kind.ErrorKind.TheVariants as ErrorKind;
+
+use crate::command::Command;
+use crate::options::command;
+use crate::request::Request;
+use chunk_seats::Plan;
+use clap::error::ErrorKind;
+use clap::{ArgMatches, Error};
+use std::alloc::{AllocError, Global};
+
+/// Why words ask for nothing.
+#[derive(Debug, Drop)]
+pub enum Refusal {
+    /// The words aren't as the command wants them, or ask for help or the version: the text that tells it.
+    Usage(String),
+    /// Out of memory.
+    NoMemory,
+}
+
+impl From<AllocError> for Refusal {
+    ghost use Rattle.command_line.specs.declared.parser.Refusal.TheVariants.{NoMemory};
+
+    ghost from_gives = { λ _ e. e ≡ NoMemory };
+
+    fn from(_: AllocError) -> Self {
+        Refusal::NoMemory
+    }
+}
+
+// The number of an option, which lies in its range.
+fn number(matches: &ArgMatches<'_>, name: &str) -> u32
+    requires { HasNumber name.now 0 4294967295 (rows_of (found_of matches.now)) }
+    ensures { result ≡ number_at name.now (rows_of (found_of matches.now)) }
+{
+    matches.get_str(name).unwrap().parse::<u32>().unwrap()
+}
+
+// How the work is shared out, by the options of a subcommand that has them.
+fn plan(options: &ArgMatches<'_>) -> Plan
+    requires { HasPlan (rows_of (found_of options.now)) }
+    ensures workers { result.workers ≡ number_at (codes "workers") (rows_of (found_of options.now)) }
+    ensures chunk { result.chunk ≡ number_at (codes "chunk") (rows_of (found_of options.now)) }
+{
+    Plan::new(number(options, "workers"), number(options, "chunk")).unwrap()
+}
+
+// What a subcommand asks for.
+fn request(name: &str, options: &ArgMatches<'_>) -> Request
+    requires { HasNumbers (rows_of (found_of options.now)) name.now }
+    ensures { result ≡ asked_by name.now (rows_of (found_of options.now)) }
+{
+    match name {
+        "build" => Request {
+            command: Command::Build,
+            plan: plan(options),
+        },
+        "run" => Request {
+            command: Command::Run {
+                steps: number(options, "steps"),
+            },
+            plan: plan(options),
+        },
+        _ => Request {
+            command: Command::Emu {
+                steps: number(options, "steps"),
+            },
+            plan: Plan {
+                workers: 1,
+                chunk: 1,
+            },
+        },
+    }
+}
+
+// Why clap refused the words.
+fn refused_by(alloc: Global, error: &Error) -> Refusal
+    ensures { IsUsage result → (kind_of error.now ≡ ErrorKind.OutOfMemory) → ⊥ }
+{
+    if error.kind() == ErrorKind::OutOfMemory {
+        return Refusal::NoMemory;
+    }
+    match format!(in alloc; "{error}") {
+        Ok(text) => Refusal::Usage(text),
+        Err(_) => Refusal::NoMemory,
+    }
+}
+
+/// What the words ask for, of which the first is the program's name.
+pub fn read(alloc: Global, words: &[String]) -> Result<Request, Refusal>
+    ensures asked { IfOk result (λ request. asked (map string_bytes words.now) ≡ Some request) }
+    ensures refused { IfErr result (λ refusal. IsUsage refusal → asked (map string_bytes words.now) ≡ None) }
+{
+    let command = command(alloc)?;
+    let matches = match command.try_get_matches_from(words) {
+        Ok(matches) => matches,
+        Err(error) => return Err(refused_by(alloc, &error)),
+    };
+    let (name, options) = matches.subcommand().unwrap();
+    Ok(request(name, options))
+}

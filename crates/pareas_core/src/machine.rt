@@ -1,0 +1,90 @@
+// A run of an image on the machine, and the line that tells how it ended.
+
+ghost use Rattle.std.specs.Prelude.{◌≡◌, IfOk, Err};
+ghost use Rattle.pareas_core.specs.Output.{due_of_machine, exit_line, fault_line, kind_name, machine_line, status_of};
+ghost use Rattle.rv_isa.specs.Word.{word_of};
+ghost use Rattle.rv32_emul.specs.Machine.{machine};
+ghost use Rattle.rv32_emul.specs.Told.{told};
+
+use crate::response::Response;
+use crate::status::Status;
+use elf_file::{ElfFault, ReadError};
+use rv_isa::FaultKind;
+use rv32_emul::{Machine, Outcome, loaded_runs};
+use std::alloc::{AllocError, Global};
+
+fn name_of(kind: FaultKind) -> &'static str
+    ensures { result.now ≡ kind_name kind }
+{
+    match kind {
+        FaultKind::Fetch => "fetch",
+        FaultKind::Load => "load",
+        FaultKind::Store => "store",
+        FaultKind::Misaligned => "misaligned",
+        FaultKind::Unknown => "unknown",
+        FaultKind::Call => "call",
+    }
+}
+
+fn status(outcome: &Outcome) -> Status
+    ensures { result ≡ status_of (told outcome.now) }
+{
+    match outcome {
+        Outcome::Exit(_) => Status::Done,
+        Outcome::Fault { .. } => Status::Machine,
+        Outcome::More => Status::Running,
+    }
+}
+
+fn exit_text(alloc: Global, value: i32) -> Result<String, AllocError>
+    ensures { IfOk result (λ text. text.bytes.items ≡ exit_line (word_of value)) }
+{
+    format!(in alloc; "exit {value}\n")
+}
+
+fn fault_text(alloc: Global, kind: FaultKind, at: u32) -> Result<String, AllocError>
+    ensures { IfOk result (λ text. text.bytes.items ≡ fault_line kind at) }
+{
+    let name = name_of(kind);
+    format!(in alloc; "fault {name} at 0x{at:08x}\n")
+}
+
+// `exit V` with a signed number, `fault KIND at 0xPPPPPPPP` with the pc, or `running`.
+fn line(alloc: Global, outcome: &Outcome) -> Result<Vec<u8>, AllocError>
+    ensures { IfOk result (λ bytes. bytes.items ≡ machine_line (told outcome.now)) }
+{
+    match *outcome {
+        Outcome::Exit(value) => Ok(exit_text(alloc, value)?.into_bytes()),
+        Outcome::Fault { kind, at, .. } => Ok(fault_text(alloc, kind, at)?.into_bytes()),
+        Outcome::More => b"running\n".to_vec(alloc),
+    }
+}
+
+// The refusal of a file that isn't loaded.
+fn not_loaded(alloc: Global, fault: ElfFault) -> Result<Response, AllocError>
+    ensures { IfOk result (λ response. response ≡ due_of_machine (Err fault)) }
+{
+    Ok(Response {
+        status: Status::BadImage,
+        out: Vec::new(alloc),
+        notes: format!(in alloc; "image {fault}\n")?.into_bytes(),
+    })
+}
+
+/// Loads the file and runs it for at most so many steps.
+pub(crate) fn emulate(alloc: Global, file: &[u8], steps: u32) -> Result<Response, AllocError>
+    ensures { IfOk result (λ response. response ≡ due_of_machine (machine file.now steps)) }
+{
+    loaded_runs();
+    let mut machine = match Machine::load(alloc, file) {
+        Ok(machine) => machine,
+        Err(ReadError::Fault(fault)) => return not_loaded(alloc, fault),
+        Err(ReadError::NoMemory) => return Err(AllocError),
+    };
+    let outcome = machine.run(u64::from(steps));
+    Ok(Response {
+        status: status(&outcome),
+        out: line(alloc, &outcome)?,
+        notes: Vec::new(alloc),
+    })
+}
