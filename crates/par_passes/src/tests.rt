@@ -114,6 +114,9 @@ fn each_worker_tells_its_number(rt: HostRuntime) -> Result<(), Fail> {
     let many = Plan::new(64, 2).ok_or("in range")?;
     assert_eq!(rt; rolls(&rt, rt.alloc(), &many, &[3, 1, 4])?, (0x0101, 0b11));
     assert_eq!(rt; rolls(&rt, rt.alloc(), &many, &[])?, (1, 0));
+    // one worker tells of its chunks too
+    let one = Plan::new(1, 2).ok_or("in range")?;
+    assert_eq!(rt; rolls(&rt, rt.alloc(), &one, &[3, 1, 4])?, (1, 0b11));
     Ok(())
 }
 
