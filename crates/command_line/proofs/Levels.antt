@@ -1,17 +1,17 @@
 -- A parse of one command in which `clap` finds no fault keeps good rows alone.
-use Rattle.std.proofs.Common.{arith, ◌≡◌, ◌∙◌, ◌+◌, ◌&&◌, ◌||◌, ◌⊎◌, ℕ, Bool, cond, true, false, not, zero, suc, refl, sym, ap, subst, List, [], ◌∷◌, ◌++◌, length, drop, Option, Some, None, inl, inr}
+use Rattle.std.proofs.Common.{arith, ◌≡◌, ◌&&◌, ◌||◌, ℕ, Bool, cond, true, false, zero, suc, refl, subst, List, [], ◌∷◌, length, drop, Option, Some, None, inl, inr}
 use Rattle.std.proofs.lemmas.Bool.{ne_eqb}
-use Rattle.std.specs.Prelude.{find, fold, slice_get, encode_utf8, is_some, option_map}
+use Rattle.std.specs.Prelude.{find, fold, slice_get, encode_utf8, is_some}
 use Rattle.std.specs.Option.{option_map_or}
 use Rattle.std.specs.Str.{bytes_eq, chars}
 use Rattle.clap.specs.Lexer.{long_of, short_of}
 use Rattle.clap.specs.Kinds.{Kinds, or_else, request_kinds}
 use Rattle.clap.specs.Simple.{Shape}
-use Rattle.clap.specs.Walk.{Text, Rule, Row, Held, Names, Outcome, done, waits, plain, refused, Step, next, trailing, subcommand, value, Waiting, idle, option, positional, Walk, arg_by_id, arg_by_long, arg_by_short, arg_by_index, takes_values, settled, settled_rows, used_by_id, reacted, option_met, flag_met, long_met, attached_value, short_met, bundle_step, bundle_met, bundle, plain_word, option_word, after_flag, long_word, short_word, short_or_plain, long_or_other, subcommand_met, subcommand_or_other, word_met, is_pending, takes_several, to_positional, after_step, walked_from, walked, walk_from, has_row, with_default, default_rows, with_values, is_empty, finished, nothing_held, rows_after, reading_by, action_of, first_of, walk}
+use Rattle.clap.specs.Walk.{Text, Rule, Row, Held, Names, Outcome, done, waits, plain, refused, Step, next, trailing, subcommand, value, Waiting, idle, option, positional, Walk, arg_by_id, arg_by_long, arg_by_short, arg_by_index, takes_values, settled, settled_rows, used_by_id, reacted, option_met, flag_met, long_met, attached_value, short_met, bundle_step, bundle_met, bundle, plain_word, option_word, after_flag, short_or_plain, long_or_other, subcommand_met, subcommand_or_other, word_met, is_pending, takes_several, to_positional, after_step, walked_from, walked, walk_from, has_row, with_default, default_rows, with_values, is_empty, finished, nothing_held, rows_after, reading_by, action_of, first_of, walk}
 use Rattle.clap.specs.Faults.{use_fault, settle_fault, react_fault, option_fault, long_fault, short_fault, bundle_step_fault, flags_fault, bundle_fault, flag_word_fault, other_fault, word_fault, positional_fault, stray_fault, step_fault, turn_fault, walk_fault, given_default_fault, default_fault, defaults_fault, values_fault, check_fault, level_fault}
 use Rattle.clap.specs.declared.error.kind.ErrorKind.TheVariants as kind
 use Rattle.clap.specs.declared.parser.matches.ValueSource.TheVariants.{DefaultValue}
-use Rattle.command_line.proofs.Rows.{both_none, AreGood, AreOptions, IsOption, IsNumber, found_option, used_good, passing, with_values_good, values_row, keeps_row, first_good}
+use Rattle.command_line.proofs.Rows.{both_none, AreGood, AreOptions, IsOption, found_option, used_good, passing, with_values_good, values_row, keeps_row, first_good}
 
 module _ (ok : Text → Text → Bool) (c : List Rule) (options : AreOptions ok c) (again : Bool) where
   abbrev Good : Held → Type 0

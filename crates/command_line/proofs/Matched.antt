@@ -1,6 +1,6 @@
 -- What a parse met, by the words alone.
-use Rattle.std.proofs.Common.{◌≡◌, ◌∙◌, ℕ, Bool, cond, true, refl, sym, ap, ap₂, subst, arith, List, [], ◌∷◌, Option, Some, None, unwrap_or}
-use Rattle.std.specs.Prelude.{option_map, if◌then◌else◌}
+use Rattle.std.proofs.Common.{◌≡◌, ◌∙◌, cond, true, refl, sym, ap, ap₂, subst, arith, List, [], ◌∷◌, Option, Some, None, unwrap_or}
+use Rattle.std.specs.Prelude.{option_map}
 use Rattle.std.proofs.lemmas.Bool.{ne_eqb}
 use Rattle.clap.specs.Kinds.{IsAmong, Kinds}
 use Rattle.clap.specs.Simple.{App, HasMatchesOf, is_simple, subcommand_of, subcommand_rows_of}
@@ -70,3 +70,8 @@ got words m name rows x name_is rows_is =
 
 pub some_same : {X : Type 0} (o : Option X) (x y : X) → o ≡ Some x → o ≡ Some y → x ≡ y
 some_same o x y e f = ap (λ p. unwrap_or p x) (sym e ∙ f)
+
+pub taken_asked : (words : List Text) → fault_of app words ≡ [] → (a : Asked) × (asked words ≡ Some a)
+taken_asked words none =
+    let one = taken words none in
+    (asked_by one.0.0 one.0.1, asked_some words one.0 none one.1)

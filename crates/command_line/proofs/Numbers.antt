@@ -1,5 +1,5 @@
 -- The number of an option is read from its text.
-use Rattle.std.proofs.Common.{◌≡◌, ◌∙◌, ℕ, ◌<◌, ◌≤◌, ◌^◌, refl, sym, ap, arith, List, Option, Some, None, Result, Ok, Err, unwrap_or, OkIff, codes, length, slice_index}
+use Rattle.std.proofs.Common.{◌≡◌, ◌∙◌, ℕ, ◌≤◌, refl, sym, ap, arith, List, Option, Some, None, Result, Ok, Err, unwrap_or, OkIff, codes, length, slice_index}
 use Rattle.std.specs.Prelude.{option_map}
 use Rattle.std.specs.Option.{IsSome}
 use Rattle.std.specs.Result.{IsOk}

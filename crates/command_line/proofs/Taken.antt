@@ -1,17 +1,17 @@
 -- Words in which `clap` finds no fault name a subcommand of the program, and the numbers of its options lie in their ranges.
-use Rattle.std.proofs.Common.{◌≡◌, ◌∙◌, ◌&&◌, ◌||◌, ℕ, Bool, cond, true, false, not, refl, sym, ap, subst, codes, List, [], ◌∷◌, ◌++◌, Option, Some, None, inl, inr, unwrap_or}
+use Rattle.std.proofs.Common.{◌≡◌, ◌∙◌, ◌&&◌, ◌||◌, ℕ, Bool, cond, true, false, not, refl, sym, ap, subst, codes, List, [], ◌∷◌, Option, Some, None, inl, inr, unwrap_or}
 use Rattle.std.specs.Prelude.{find, fold, is_some, option_map, bytes_eq, if◌then◌else◌}
 use Rattle.std.specs.Option.{option_map_or}
-use Rattle.std.specs.List.{list_any, slice_index_or}
+use Rattle.std.specs.List.{slice_index_or}
 use Rattle.std.proofs.lemmas.Slice.Eq.{bytes_eq-Decides}
 use Rattle.clap.specs.Lexer.{long_of, short_of}
 use Rattle.clap.specs.ValueTests.{is_unsigned_in}
 use Rattle.clap.specs.declared.builder.value_parser.ValueParser.TheVariants as parsers
 use Rattle.clap.specs.declared.error.kind.ErrorKind.TheVariants as kind
-use Rattle.clap.specs.Kinds.{Kinds, or_else, check_kinds}
-use Rattle.clap.specs.Simple.{App, Shape, argument_words, built, entered, filled, with_index, label_of, names_of, rows_at, subcommand_of}
-use Rattle.clap.specs.Walk.{Text, Rule, Row, Held, Names, Outcome, done, waits, plain, refused, Step, next, trailing, subcommand, value, Waiting, idle, option, positional, Walk, answers_to, arg_by_id, arg_by_index, plain_word, option_word, after_flag, long_met, bundle, long_or_other, short_or_plain, arg_by_long, subcommand_met, subcommand_or_other, word_met, to_positional, after_step, walked_from, walked, walk, walk_from, settled, finished, nothing_held, rows_after}
-use Rattle.clap.specs.Faults.{walk_fault, turn_fault, word_fault, other_fault, step_fault, settle_fault, defaults_fault, check_fault, level_fault, entered_fault, built_fault, fault_of, flag_word_fault}
+use Rattle.clap.specs.Kinds.{or_else}
+use Rattle.clap.specs.Simple.{Shape, argument_words, built, entered, filled, with_index, label_of, names_of, rows_at, subcommand_of}
+use Rattle.clap.specs.Walk.{Text, Rule, Row, Held, Names, Outcome, done, waits, plain, refused, Step, next, trailing, subcommand, value, Waiting, idle, option, positional, Walk, answers_to, arg_by_index, plain_word, after_flag, long_or_other, short_or_plain, subcommand_met, subcommand_or_other, word_met, to_positional, after_step, walked_from, walked, walk, walk_from, settled, finished, nothing_held, rows_after}
+use Rattle.clap.specs.Faults.{walk_fault, turn_fault, word_fault, other_fault, step_fault, settle_fault, defaults_fault, check_fault, level_fault, entered_fault, built_fault, fault_of}
 use Rattle.clap.proofs.ValueTestLemmas.{accepts-Accepts}
 use Rattle.command_line.specs.Words.{app, number_option, workers_option, chunk_option, steps_option}
 use Rattle.command_line.specs.Ranges.{HasNumber, HasPlan, HasSteps, HasNumbers, of_build, of_run, of_emu}

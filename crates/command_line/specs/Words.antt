@@ -1,5 +1,5 @@
 -- The program's command line, as a command of `clap`, and what its words ask for.
-use Rattle.std.specs.Prelude.{ℕ, true, false, List, [], ◌∷◌, Option, Some, None, option_map, codes, unwrap_or, decimal, bytes_eq, if◌then◌else◌}
+use Rattle.std.specs.Prelude.{ℕ, true, false, List, [], ◌∷◌, Option, Some, None, option_map, codes, unwrap_or, bytes_eq, if◌then◌else◌}
 use Rattle.std.specs.Str.Parse.{digits_value, without_leading_plus}
 use Rattle.clap.specs.Walk.{Text, Rule, Row, first_of, is_empty}
 use Rattle.clap.specs.Simple.{Shape, App, new_shape, new_rule, subcommand_of}

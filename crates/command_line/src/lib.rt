@@ -2,11 +2,13 @@
 #![tactic(auto)]
 
 mod command;
+mod laws;
 mod options;
 mod parser;
 mod request;
 
 pub use command::Command;
+pub use laws::{taken_words_ask, worked_words};
 pub use parser::{Refusal, read};
 pub use request::Request;
 

@@ -1,9 +1,7 @@
-use Rattle.std.proofs.Common.{rules, ◌≡◌, ◌∙◌, ap, ap₂, refl, sym, subst, inl, inr, List, [], ◌∷◌, Option, Some, None, map, string_bytes, ℕ}
+use Rattle.std.proofs.Common.{◌≡◌, ◌∙◌, ap, refl, sym, subst, inl, inr, Some, map, string_bytes}
 use Rattle.std.specs.Prelude.{option_map}
-use Rattle.clap.specs.Words.{app_of, found_of, rows_of, kind_of, is_simple_and_free, fault_of, IsAmong, subcommand_rows_of}
-use Rattle.clap.specs.Walk.{Text, Row}
-use Rattle.command_line.specs.Words.{app, asked, asked_by}
-use Rattle.command_line.specs.Ranges.{HasNumbers}
+use Rattle.clap.specs.Words.{app_of, found_of, rows_of, kind_of, is_simple_and_free, fault_of, IsAmong}
+use Rattle.command_line.specs.Words.{app}
 use Rattle.command_line.proofs.Matched.{app_is_free, asked_none, met, got, mapped_twice}
 use Rattle.command_line.proofs.parser.read.Goals as goal
 

@@ -1,0 +1,7 @@
+use Rattle.std.proofs.Common.{refl}
+use Rattle.clap.proofs.OnLiterals.{clap_on_literals}
+use Rattle.command_line.proofs.laws.worked_words.Goals as goal
+
+pub returns : goal.returns
+unfolding clap_on_literals
+returns c = record { build = refl; options = refl; emu = refl; bare = refl; too_many = refl; help = refl }
