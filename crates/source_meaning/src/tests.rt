@@ -147,15 +147,19 @@ fn without_end(rt: HostRuntime) -> Result<(), Fail> {
 /// The value that the last function's one statement returns.
 fn value_of_last(program: Program) -> Option<Expr> {
     let mut functions = program.functions;
-    let last = functions.pop()?;
-    match last.body {
-        Stmt::Block {
-            body: Stmts::Next { first, .. },
-            ..
-        } => match Box::into_inner(first) {
-            Stmt::Return { value, .. } => Some(value),
-            _ => None,
-        },
+    let Function { body, .. } = functions.pop()?;
+    let Stmt::Block {
+        body: statements,
+        ..
+    } = body
+    else {
+        return None;
+    };
+    let Stmts::Next { first, .. } = statements else {
+        return None;
+    };
+    match Box::into_inner(first) {
+        Stmt::Return { value, .. } => Some(value),
         _ => None,
     }
 }
