@@ -1,0 +1,63 @@
+// Why grammars aren't LL(1).
+
+use crate::fault::TableFault;
+use crate::generator::ll1_fault;
+use grammar_file::{G1, Grammar, GrammarFault};
+use std::alloc::Global;
+use std::test::Fail;
+
+/// The numbers of the fault: nonterminal, terminal and productions, or the nonterminal alone.
+fn numbers_of(alloc: Global, text: &[u8]) -> Result<[u16; 4], GrammarFault> {
+    let grammar = Grammar::read(alloc, text)?;
+    match ll1_fault(alloc, &grammar)? {
+        None => Ok([0; 4]),
+        Some(TableFault::LeftRecursive { nonterminal }) => Ok([nonterminal + 1, 0, 0, 0]),
+        Some(
+            TableFault::Ll1 {
+                nonterminal,
+                b,
+                p1,
+                p2,
+            },
+        ) => Ok([nonterminal + 1, b, p1, p2]),
+        Some(TableFault::Llp { .. }) => Ok([9; 4]),
+    }
+}
+
+#[test]
+fn least_faults(rt: HostRuntime) -> Result<(), Fail> {
+    let rows: [(&[u8], [u16; 4]); 10] = [
+        (b"S -> a\nS -> a b", [1, 1, 1, 2]),
+        (b"S -> S a\nS -> b", [1, 0, 0, 0]),
+        (
+            b"S -> p E q\nS -> c E T q\nE -> i\nT -> d E T\nT ->",
+            [0; 4],
+        ),
+        (b"S ->", [0; 4]),
+        (b"S -> a", [0; 4]),
+        (b"S -> A\nA -> B a\nA -> c\nB -> A b\nB ->", [2, 0, 0, 0]),
+        (b"S -> N S a\nS -> b\nN ->", [1, 0, 0, 0]),
+        (b"S -> A\nS ->\nA ->", [1, 1, 1, 2]),
+        (b"S -> A a\nA -> b\nA -> a\nA ->", [2, 1, 3, 4]),
+        (
+            b"S -> b\nS -> a\nS -> a c\nS -> b c\nS -> a d",
+            [1, 1, 1, 4],
+        ),
+    ];
+    for (text, numbers) in rows {
+        match numbers_of(rt.alloc(), text) {
+            Ok(found) => assert_eq!(rt; found, numbers),
+            Err(_) => assert!(rt; false, "a grammar is refused"),
+        }
+    }
+    Ok(())
+}
+
+#[test]
+fn source_grammar(rt: HostRuntime) -> Result<(), Fail> {
+    match numbers_of(rt.alloc(), G1) {
+        Ok(found) => assert_eq!(rt; found, [0; 4]),
+        Err(_) => assert!(rt; false, "the grammar of the source language is refused"),
+    }
+    Ok(())
+}
