@@ -1,6 +1,6 @@
 // Reading a file (System V ABI, "ELF Header", "Program Header" and "Program Loading").
 
-ghost use Rattle.std.specs.Prelude.{◌≡◌, ◌+◌, ◌*◌, ◌%◌, ◌<◌, ◌≤◌, ◌^◌, ◌⊎◌, ◌-◌, ◌++◌, [], true, false, bit_and, nat_le, nat_lt, ◌&&◌, ◌==◌, OnOk, take, drop, replicate, Ok, Err, IfOk, length, MatchResult, MatchOption, Result, sum_by};
+ghost use Rattle.std.specs.Prelude.{◌≡◌, ◌+◌, ◌*◌, ◌%◌, ◌<◌, ◌≤◌, ◌^◌, ◌⊎◌, ◌-◌, ◌++◌, [], ◌∷◌, true, false, bit_and, nat_le, nat_lt, ◌&&◌, ◌==◌, OnOk, take, drop, replicate, Ok, Err, IfOk, length, MatchResult, MatchOption, Result, sum_by};
 ghost use Rattle.std.specs.List.{list_any};
 ghost use Rattle.elf_file.specs.Load.{
   load,
@@ -11,13 +11,15 @@ ghost use Rattle.elf_file.specs.Load.{
   is_loaded as is_due,
   cannot_load as is_refused,
   segment_at as segment_of,
-  with_header,
+  with_header as after_header,
   with_headers,
   with_entry,
   may_begin as begins,
 };
+ghost use Rattle.elf_file.specs.Earlier.{touches_segment};
 ghost use Rattle.elf_file.specs.Reading.{IsRefusal, Reads};
 
+use crate::earlier::Earlier;
 use crate::fault::{ElfFault, ReadError};
 use crate::format::{
     E_ENTRY, E_MACHINE, E_PHENTSIZE, E_PHNUM, E_PHOFF, E_TYPE, EXECUTABLE, EXECUTE, HEADER_SIZE,
@@ -87,33 +89,23 @@ fn overlap(start: u64, end: u64, other_start: u64, other_end: u64) -> bool
     start < other_end && other_start < end
 }
 
-/// A stretch shares an address with a segment.
-fn overlaps_any(segments: &[Segment], start: u64, end: u64) -> bool
-    ensures { result ≡ list_any (λ s. share start end s.start (s.start + length s.bytes)) segments.now }
-{
-    segments
-        .iter()
-        .any(|s| overlap(start, end, u64::from(s.start()), s.end()))
-}
-
 /// The program header at an offset is one to be loaded.
 fn is_loaded(file: &[u8], offset: usize) -> bool
     requires { offset + 32 ≤ length file.now }
-    ensures { result ≡ is_due file.now offset }
+    ensures due { result ≡ is_due file.now offset }
+    ensures some { result ≡ true → 0 < word_of file.now (offset + 20) }
 {
     word_at(file, offset) == LOAD && word_at(file, offset + P_MEMSZ) != 0
 }
 
-/// The segment of the program header at an offset cannot be loaded behind earlier ones, which have
-/// `total` bytes.
-fn cannot_load(file: &[u8], offset: usize, earlier: &[Segment], total: u64) -> bool
-    requires offset { offset + 32 ≤ length file.now }
-    requires total { total ≡ sum_by (λ s. length s.bytes) earlier.now }
-    requires total_fits { total ≤ most }
+/// The segment of the program header at an offset cannot be loaded behind earlier ones.
+fn cannot_load(file: &[u8], offset: usize, earlier: &Earlier) -> bool
+    requires { offset + 32 ≤ length file.now }
     ensures refused { result ≡ is_refused file.now offset earlier.now }
     ensures sizes { result ≡ false → word_of file.now (offset + 16) ≤ word_of file.now (offset + 20) }
     ensures inside { result ≡ false → (word_of file.now (offset + 16) ≡ 0) ⊎ (word_of file.now (offset + 4) + word_of file.now (offset + 16) ≤ length file.now) }
-    ensures few { result ≡ false → total + word_of file.now (offset + 20) ≤ most }
+    ensures apart { result ≡ false → touches_segment earlier.now (word_of file.now (offset + 8)) (word_of file.now (offset + 8) + word_of file.now (offset + 20)) ≡ false }
+    ensures few { result ≡ false → sum_by (λ s. length s.bytes) earlier.now + word_of file.now (offset + 20) ≤ most }
 {
     let file_size = word_at(file, offset + P_FILESZ) as u64;
     let size = word_at(file, offset + P_MEMSZ) as u64;
@@ -122,9 +114,9 @@ fn cannot_load(file: &[u8], offset: usize, earlier: &[Segment], total: u64) -> b
     (file_size != 0 && word_at(file, offset + P_OFFSET) as u64 + file_size > file.len() as u64)
         || size < file_size
         || end > 1 << 32
-        || overlaps_any(earlier, start, end)
+        || earlier.touches(start, end)
         || overlap(start, end, STACK_START, STACK_END)
-        || total + size > MOST
+        || earlier.total() + size > MOST
 }
 
 /// The bytes of the file at an offset, which may be anywhere where there are none.
@@ -157,6 +149,7 @@ fn segment_at(alloc: Global, file: &[u8], offset: usize) -> Result<Segment, Allo
     requires sizes { word_of file.now (offset + 16) ≤ word_of file.now (offset + 20) }
     requires inside { (word_of file.now (offset + 16) ≡ 0) ⊎ (word_of file.now (offset + 4) + word_of file.now (offset + 16) ≤ length file.now) }
     ensures segment { IfOk result (λ segment. segment ≡ segment_of file.now offset) }
+    ensures start { IfOk result (λ segment. segment.start ≡ word_of file.now (offset + 8)) }
     ensures size { IfOk result (λ segment. length segment.bytes ≡ word_of file.now (offset + 20)) }
 {
     let file_size = word_at(file, offset + P_FILESZ) as usize;
@@ -169,22 +162,35 @@ fn segment_at(alloc: Global, file: &[u8], offset: usize) -> Result<Segment, Allo
     ))
 }
 
-/// Adds the segment of the program header `number`, which is at an offset, to earlier ones of `total`
-/// bytes, and answers the bytes of all.
-fn add_segment(
+/// Earlier segments and the one of the program header at an offset, which can be loaded behind them.
+fn with_segment(
+    alloc: Global,
+    file: &[u8],
+    offset: usize,
+    earlier: Earlier,
+) -> Result<Earlier, AllocError>
+    requires offset { offset + 32 ≤ length file.now }
+    requires sizes { word_of file.now (offset + 16) ≤ word_of file.now (offset + 20) }
+    requires inside { (word_of file.now (offset + 16) ≡ 0) ⊎ (word_of file.now (offset + 4) + word_of file.now (offset + 16) ≤ length file.now) }
+    requires some { 0 < word_of file.now (offset + 20) }
+    requires apart { touches_segment earlier (word_of file.now (offset + 8)) (word_of file.now (offset + 8) + word_of file.now (offset + 20)) ≡ false }
+    requires few { sum_by (λ s. length s.bytes) earlier + word_of file.now (offset + 20) ≤ most }
+    ensures { IfOk result (λ all. all ≡ earlier ++ segment_of file.now offset ∷ []) }
+{
+    let segment = segment_at(alloc, file, offset)?;
+    earlier.with(segment)
+}
+
+/// Earlier segments and the one, if any, of the program header `number`, which is at an offset.
+fn with_header(
     alloc: Global,
     file: &[u8],
     number: u32,
     offset: u64,
-    segments: &mut Vec<Segment>,
-    total: u64,
-) -> Result<u64, ReadError>
-    requires offset { offset < 2 ^ 40 }
-    requires total { total ≡ sum_by (λ s. length s.bytes) segments.old.items }
-    requires few { total ≤ most }
-    ensures header { MatchResult result (λ _. with_header file.now number offset segments.old.items ≡ Ok segments.new.items) (λ e. IsRefusal (with_header file.now number offset segments.old.items) e) }
-    ensures total { IfOk result (λ n. n ≡ sum_by (λ s. length s.bytes) segments.new.items) }
-    ensures few { IfOk result (λ n. n ≤ most) }
+    earlier: Earlier,
+) -> Result<Earlier, ReadError>
+    requires { offset < 2 ^ 40 }
+    ensures { MatchResult result (λ all. after_header file.now number offset earlier ≡ Ok all) (λ e. IsRefusal (after_header file.now number offset earlier) e) }
 {
     let refused = ReadError::Fault(ElfFault::Segment(number));
     if offset + 32 > file.len() as u64 {
@@ -192,14 +198,12 @@ fn add_segment(
     }
     let offset = offset as usize;
     if !is_loaded(file, offset) {
-        return Ok(total);
+        return Ok(earlier);
     }
-    if cannot_load(file, offset, segments, total) {
+    if cannot_load(file, offset, &earlier) {
         return Err(refused);
     }
-    let segment = segment_at(alloc, file, offset)?;
-    segments.push(segment)?;
-    Ok(total + u64::from(word_at(file, offset + P_MEMSZ)))
+    Ok(with_segment(alloc, file, offset, earlier)?)
 }
 
 /// The segments of all program headers.
@@ -211,13 +215,12 @@ fn read_segments(
 ) -> Result<Vec<Segment>, ReadError>
     ensures { MatchResult result (λ v. with_headers file.now count 0 start (Ok []) ≡ Ok v.items) (λ e. IsRefusal (with_headers file.now count 0 start (Ok [])) e) }
 {
-    let mut segments = Vec::new(alloc);
-    let mut total = 0;
+    let mut earlier = Earlier::new(alloc);
     for number in 0..count as u32 {
         let offset = start as u64 + 32 * number as u64;
-        total = add_segment(alloc, file, number, offset, &mut segments, total)?;
+        earlier = with_header(alloc, file, number, offset, earlier)?;
     }
-    Ok(segments)
+    Ok(earlier.into_segments())
 }
 
 /// The address lies in the segment, which may be executed.
