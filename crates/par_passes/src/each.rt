@@ -1,10 +1,10 @@
 //! A function of each item.
-ghost use Rattle.std.specs.Prelude.{◌≡◌, ℕ, ◌<◌, ◌^◌, List, length, All, map, IfOk};
+ghost use Rattle.std.specs.Prelude.{◌≡◌, ℕ, ◌-◌, ◌*◌, ◌<◌, ◌^◌, min, List, length, All, map, IfOk};
 ghost use Rattle.chunk_seats.specs.Chunks.{chunk_of};
 ghost use Rattle.par_passes.specs.Passes.{Maps};
 
 use crate::chunk::{chunk_slice, count_chunks};
-use crate::crew::by_chunks;
+use crate::crew::{by_chunks, by_whole_chunks};
 use chunk_seats::{Gate, Plan};
 use scan_lookback::Lift;
 use std::alloc::{AllocError, Global};
@@ -17,7 +17,8 @@ fn map_slice<T: Copy, U: Copy, F: Fn(T) -> U>(
     f: &F,
 ) -> Result<Vec<U>, AllocError>
     requires callable { All (F.pre f.now) part.now }
-    ensures { IfOk result (λ v. Maps (F.post f.now) part.now v.items) }
+    ensures values { IfOk result (λ v. Maps (F.post f.now) part.now v.items) }
+    ensures whole { IfOk result (λ v. length v.items ≡ length part.now) }
 {
     let mut out = Vec::with_capacity(alloc, part.len())?;
     for x in part {
@@ -35,7 +36,8 @@ fn map_chunk<T: Copy, U: Copy, F: Fn(T) -> U>(
     c: u64,
 ) -> Result<Vec<U>, AllocError>
     requires callable { All (F.pre f.now) items.now }
-    ensures { IfOk result (λ v. Maps (F.post f.now) (chunk_of size items.now c) v.items) }
+    ensures values { IfOk result (λ v. Maps (F.post f.now) (chunk_of size items.now c) v.items) }
+    ensures whole { IfOk result (λ v. length v.items ≡ min size (length items.now - c * size)) }
 {
     map_slice(alloc, chunk_slice(items, size, c), f)
 }
@@ -57,10 +59,15 @@ pub fn map<T: Copy + Sync, U: Copy + Send + Sync, F: Fn(T) -> U + Sync, G: Gate,
     let size = plan.chunk;
     let make = |c: u64| -> Result<Vec<U>, AllocError>
         requires { All (F.pre f.now) items.now }
-        ensures { IfOk result (λ v. Maps (F.post f.entry.now) (chunk_of size items.entry.now c) v.items) }
+        ensures values { IfOk result (λ v. Maps (F.post f.entry.now) (chunk_of size items.entry.now c) v.items) }
+        ensures whole { IfOk result (λ v. length v.items ≡ min size (length items.entry.now - c * size)) }
     { map_chunk(alloc, items, size, f, c) };
-    let count = count_chunks(items.len(), size);
-    by_chunks(rt, alloc, plan, gate, count, items.len(), &make)
+    let len = items.len();
+    if plan.workers == 1 || len <= size as usize {
+        let count = count_chunks(len, size);
+        return by_chunks(rt, alloc, plan, gate, count, len, &make);
+    }
+    by_whole_chunks(rt, alloc, plan, gate, f(items[0]), len, &make)
 }
 
 /// The same for a function that contracts can name.
