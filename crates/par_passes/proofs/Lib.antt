@@ -2,3 +2,4 @@ pub mod Together
 pub mod Working
 pub mod Lowest
 pub mod Calling
+pub mod Filling

@@ -1,3 +1,4 @@
 pub mod Crews
 pub mod Passes
 pub mod Least
+pub mod Slots

@@ -1,14 +1,30 @@
 //! A function of each item.
-ghost use Rattle.std.specs.Prelude.{◌≡◌, ℕ, ◌<◌, ◌^◌, List, length, All, map, IfOk};
+ghost use Rattle.std.specs.Prelude.{◌≡◌, ℕ, ◌+◌, ◌-◌, ◌*◌, ◌<◌, ◌^◌, ◌++◌, min, List, length, All, map, IfOk};
 ghost use Rattle.chunk_seats.specs.Chunks.{chunk_of};
 ghost use Rattle.par_passes.specs.Passes.{Maps};
 
 use crate::chunk::{chunk_slice, count_chunks};
-use crate::crew::by_chunks;
+use crate::crew::by_whole_chunks;
 use chunk_seats::{Gate, Plan};
 use scan_lookback::Lift;
 use std::alloc::{AllocError, Global};
 use std::thread::Threads;
+
+// What the function gives for each item, right behind what is in the list.
+fn map_onto<T: Copy, U: Copy, F: Fn(T) -> U>(
+    part: &[T],
+    f: &F,
+    out: &mut Vec<U>,
+) -> Result<(), AllocError>
+    requires callable { All (F.pre f.now) part.now }
+    ensures values { IfOk result (λ _. (g : T → U) → All (λ x. (r : U) → F.post f.now x r → r ≡ g x) part.now → out.new.items ≡ out.old.items ++ map g part.now) }
+    ensures whole { IfOk result (λ _. length out.new.items ≡ length out.old.items + length part.now) }
+{
+    for x in part {
+        out.push(f(*x))?;
+    }
+    Ok(())
+}
 
 // What the function gives for each item.
 fn map_slice<T: Copy, U: Copy, F: Fn(T) -> U>(
@@ -17,12 +33,11 @@ fn map_slice<T: Copy, U: Copy, F: Fn(T) -> U>(
     f: &F,
 ) -> Result<Vec<U>, AllocError>
     requires callable { All (F.pre f.now) part.now }
-    ensures { IfOk result (λ v. Maps (F.post f.now) part.now v.items) }
+    ensures values { IfOk result (λ v. Maps (F.post f.now) part.now v.items) }
+    ensures whole { IfOk result (λ v. length v.items ≡ length part.now) }
 {
     let mut out = Vec::with_capacity(alloc, part.len())?;
-    for x in part {
-        out.push(f(*x))?;
-    }
+    map_onto(part, f, &mut out)?;
     Ok(out)
 }
 
@@ -35,9 +50,32 @@ fn map_chunk<T: Copy, U: Copy, F: Fn(T) -> U>(
     c: u64,
 ) -> Result<Vec<U>, AllocError>
     requires callable { All (F.pre f.now) items.now }
-    ensures { IfOk result (λ v. Maps (F.post f.now) (chunk_of size items.now c) v.items) }
+    ensures values { IfOk result (λ v. Maps (F.post f.now) (chunk_of size items.now c) v.items) }
+    ensures whole { IfOk result (λ v. length v.items ≡ min size (length items.now - c * size)) }
 {
     map_slice(alloc, chunk_slice(items, size, c), f)
+}
+
+// All that one worker does alone: the chunks in turn, each right behind the one before it.
+fn map_in_turn<T: Copy, U: Copy, F: Fn(T) -> U, G: Gate>(
+    alloc: Global,
+    plan: &Plan,
+    gate: &G,
+    items: &[T],
+    f: &F,
+) -> Result<Vec<U>, AllocError>
+    requires len { length items.now < 2 ^ 62 }
+    requires callable { All (F.pre f.now) items.now }
+    ensures { IfOk result (λ v. Maps (F.post f.now) items.now v.items) }
+{
+    let size = plan.chunk;
+    let mut out = Vec::with_capacity(alloc, items.len())?;
+    for c in 0..count_chunks(items.len(), size) as u64 {
+        gate.after_claim(0, Some(c));
+        map_onto(chunk_slice(items, size, c), f, &mut out)?;
+    }
+    gate.after_claim(0, None);
+    Ok(out)
 }
 
 /// What the function gives for each item, in the items' order. It is the same for every plan and gate. The only refusal is that
@@ -54,13 +92,17 @@ pub fn map<T: Copy + Sync, U: Copy + Send + Sync, F: Fn(T) -> U + Sync, G: Gate,
     requires callable { All (F.pre f.now) items.now }
     ensures { IfOk result (λ v. (g : T → U) → All (λ x. (r : U) → F.post f.now x r → r ≡ g x) items.now → v.items ≡ map g items.now) }
 {
+    let len = items.len();
     let size = plan.chunk;
+    if plan.workers == 1 || len <= size as usize {
+        return map_in_turn(alloc, plan, gate, items, f);
+    }
     let make = |c: u64| -> Result<Vec<U>, AllocError>
         requires { All (F.pre f.now) items.now }
-        ensures { IfOk result (λ v. Maps (F.post f.entry.now) (chunk_of size items.entry.now c) v.items) }
+        ensures values { IfOk result (λ v. Maps (F.post f.entry.now) (chunk_of size items.entry.now c) v.items) }
+        ensures whole { IfOk result (λ v. length v.items ≡ min size (length items.entry.now - c * size)) }
     { map_chunk(alloc, items, size, f, c) };
-    let count = count_chunks(items.len(), size);
-    by_chunks(rt, alloc, plan, gate, count, items.len(), &make)
+    by_whole_chunks(rt, alloc, plan, gate, f(items[0]), len, &make)
 }
 
 /// The same for a function that contracts can name.

@@ -6,6 +6,7 @@ mod chunk;
 mod crew;
 mod each;
 mod fewest;
+mod fill;
 mod marked;
 mod order;
 mod places;

@@ -20,7 +20,7 @@ mod work;
 
 pub use board::{ScanBoard, Seat};
 pub use look::{Look, Unseen};
-pub use place::assemble;
+pub use place::{assemble, by_number};
 pub use single_pass::{scan, scan_lifted};
 pub use steps::Steps;
 pub use views::{Chunks, Codes, Lift, Lifted, LookView};

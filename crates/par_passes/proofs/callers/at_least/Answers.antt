@@ -1,4 +1,4 @@
-use Rattle.std.proofs.Common.{◌≡◌, leb, length, ap, ◌∙◌}
+use Rattle.std.proofs.Common.{leb, length, ap, ◌∙◌}
 use Rattle.std.proofs.lemmas.List.{length-map}
 use Rattle.par_passes.specs.Passes.{marked}
 use Rattle.par_passes.proofs.Calling.{if_ok, marked_by}

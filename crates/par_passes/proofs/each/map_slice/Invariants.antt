@@ -1,5 +1,0 @@
-use Rattle.std.proofs.Common.{◌≡◌, All, map, take}
-use Rattle.par_passes.proofs.each.map_slice.Given as goal
-
-abbrev pub invariant-loop-x : goal.invariant-loop-x
-invariant-loop-x g l = (h : _ → _) → All (λ x. (r : _) → goal.F-post g l.f x r → r ≡ h x) l.part → l.out.items ≡ map h (take l.x-index l.part)
