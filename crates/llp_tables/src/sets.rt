@@ -38,7 +38,7 @@ pub(crate) fn all_vanish(nullable: &[bool], form: &[Symbol]) -> bool
 }
 
 /// Whether what the symbol derives may begin with the terminal b, by the marks on the nonterminals that do.
-fn starts(first: &[bool], b: u16, symbol: Symbol) -> bool
+pub(crate) fn starts(first: &[bool], b: u16, symbol: Symbol) -> bool
     ensures { result ≡ starts first.now b symbol }
 {
     match symbol {
