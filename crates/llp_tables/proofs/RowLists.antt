@@ -1,8 +1,9 @@
 -- Pieces row by row: one more piece, and the table of all.
-use Rattle.std.proofs.Common.{◌≡◌, ◌≢◌, ℕ, suc, ◌+◌, ◌*◌, ◌-◌, ◌<◌, ◌≤◌, ◌⊎◌, inl, inr, List, [], ◌∷◌, ◌++◌, length, map, get_or, take, drop, Bool, true, false, ◌&&◌, nat_lt, if◌then◌else◌, Option, Some, None, refl, sym, ap, ap₂, ◌∙◌, subst, arith, length-append, length-drop}
+use Rattle.std.proofs.Common.{◌≡◌, ◌≢◌, ℕ, suc, ◌+◌, ◌*◌, ◌-◌, ◌<◌, ◌≤◌, ◌⊎◌, inl, inr, List, [], ◌∷◌, ◌++◌, length, map, get_or, take, drop, Bool, true, false, ◌&&◌, nat_lt, if◌then◌else◌, Option, Some, None, refl, sym, ap, ap₂, ◌∙◌, subst, arith, append-nil, length-append, length-drop}
 use Rattle.std.specs.List.{AllByRecursion}
 use Rattle.std.proofs.lemmas.Bool.{cases_lt, ltb-true, lt-ltb, true≢false}
 use Rattle.std.proofs.lemmas.List.{map-append, length-map, get_or_append_left, get_or_at, drop_at, take_all, drop-append-le, take-append-le}
+use Rattle.std.proofs.lemmas.Option.{slice_get-get_or}
 use Rattle.std.proofs.Math.Nat.{mul-le-mul_right}
 use Rattle.grammar_file.specs.declared.symbols.Symbol.{Symbol}
 use Rattle.grammar_file.specs.declared.symbols.Symbol.TheVariants.{Terminal}
@@ -15,6 +16,9 @@ use Rattle.llp_tables.specs.Cells.{IsBefore}
 use Rattle.llp_tables.specs.Slots.{Slots, Empty, One, Two}
 use Rattle.llp_tables.specs.LeastMembers.{KeepsLeast, AreLeastMembers}
 use Rattle.llp_tables.specs.Behind.{Behind}
+use Rattle.llp_tables.specs.CellSlots.{cell_of}
+use Rattle.llp_tables.specs.Lookbacks.{AreLookbacks, cells_in}
+use Rattle.llp_tables.specs.declared.cells.Members.{Members}
 use Rattle.llp_tables.specs.EntryTable.{EntryTable, entry_of, AreTablesOf}
 use Rattle.llp_tables.specs.PieceRows.{entry_in, IsWithin, IsMade, TellsPair, width_of, AreRows}
 use Rattle.llp_tables.specs.declared.rows.Piece.{Piece}
@@ -87,7 +91,7 @@ module _ (g : Grammar) where
     pair_only x e beta h = (member_kept x e).1 beta (by_rules g a b beta h)
 
   pub tells_none : (a b : ℕ) (before : List ℕ) → ((beta : List Symbol) → ¬ IsLookback g a b beta) → TellsPair g a b before before None
-  tells_none a b before none = record { more = []; added = sym (Rattle.std.proofs.Common.append-nil before); within = tt; tells = none }
+  tells_none a b before none = record { more = []; added = sym (append-nil before); within = tt; tells = none }
 
   pub tells_made : (a b : ℕ) (closes : List Symbol) (before after : List ℕ) (piece : Piece) → IsLookback g a b closes → ((beta : List Symbol) → IsLookback g a b beta → beta ≡ closes) → IsMade g b closes before after piece → TellsPair g a b before after (Some piece)
   tells_made a b closes before after piece member only h =
@@ -114,6 +118,12 @@ module _ (g : Grammar) where
             only = λ beta k. only beta k ∙ sym h.closes_are;
             piece = subst (λ c. IsPiece g b c piece.opens.items h.more) (sym h.closes_are) h.is_piece;
           }
+
+  -- the cells of one row
+  pub least_at : (all : List Members) (b : ℕ) (m : Members) → AreLookbacks g all → b < length all → m ≡ get_or all b m → AreLeastMembers g b (cell_of m)
+  least_at all b m h l is =
+      let within : b < width_of g = let count = h.count in omega arith in
+      subst (λ (o : Option Members). AreLeastMembers g b (cells_in o)) (slice_get-get_or all b m l ∙ ap Some (sym is)) (h.least b within)
 
   -- ---- one more piece
 

@@ -1,10 +1,12 @@
 // The tables of a grammar, as a value.
 
-ghost use Rattle.std.specs.Prelude.{◌≡◌, ◌<◌, ◌≤◌, ◌*◌, ◌-◌, ℕ, ◌∷◌, [], length, take, drop, Some, None, IfOk, MatchOption, slice_get, slice_index_or, is_some, count_by};
+ghost use Rattle.std.specs.Prelude.{◌≡◌, ◌<◌, ◌≤◌, ◌*◌, ◌-◌, ℕ, ◌∷◌, [], length, map, take, drop, Some, None, IfOk, MatchOption, slice_get, slice_index_or, is_some, count_by};
 ghost use Rattle.grammar_file.specs.declared.symbols.Symbol.TheVariants.{Nonterminal as AnyNonterminal};
+ghost use Rattle.std.specs.List.{AllByRecursion};
 ghost use Rattle.llp_tables.specs.EntryTable.{entry_of};
+ghost use Rattle.llp_tables.specs.PieceRows.{entry_in, IsWithin};
 
-use crate::rows::Piece;
+use crate::rows::{Piece, PieceRows};
 use grammar_file::Symbol;
 use std::marker::Model;
 
@@ -70,6 +72,18 @@ fn told<'a>(piece: &'a Piece, productions: &'a [u16]) -> Entry<'a>
 }
 
 impl Tables {
+    /// The tables with these pieces, a row for each of so many terminals.
+    pub(crate) fn new(width: u16, rows: PieceRows) -> Tables
+        requires { AllByRecursion (IsWithin (length rows.productions.items)) rows.pieces.items }
+        ensures { result ≡ record { width = width; entries = map (entry_in rows.productions.items) rows.pieces.items } }
+    {
+        Tables {
+            width,
+            pieces: rows.pieces,
+            productions: rows.productions,
+        }
+    }
+
     /// What the pair of terminals tells where b comes next behind a. The begin mark is terminal 0, the end mark the last
     /// one. There is no entry where b never comes next behind a.
     pub fn entry(&self, a: u16, b: u16) -> Option<Entry<'_>>
