@@ -4,6 +4,7 @@ ghost use Rattle.std.specs.Prelude.{◌≡◌, ◌<◌, ◌+◌, ℕ, [], ◌∷
 ghost use Rattle.grammar_file.specs.declared.symbols.Symbol.TheVariants.{Terminal as AnyTerminal, Nonterminal as AnyNonterminal};
 ghost use Rattle.grammar_file.specs.Grammar.{IsWellFormed};
 ghost use Rattle.grammar_file.specs.Marks.{AreMarksOf};
+ghost use Rattle.grammar_file.specs.Spelling.{IsReduced};
 ghost use Rattle.llp_tables.specs.Predict.{IsNullable};
 ghost use Rattle.llp_tables.specs.Lookback.{IsLlp};
 ghost use Rattle.llp_tables.specs.CellSlots.{cell_of, slots_of};
@@ -62,10 +63,7 @@ pub(crate) struct LookbackConflict {
 }
 
 /// The strings of a cell that has two.
-fn two_of(
-    alloc: Global,
-    cell: &Cell,
-) -> Result<Option<(Vec<Symbol>, Vec<Symbol>)>, AllocError>
+fn two_of(alloc: Global, cell: &Cell) -> Result<Option<(Vec<Symbol>, Vec<Symbol>)>, AllocError>
     ensures { IfOk result (λ o. MatchOption o (HasNoTwo (slots_of cell.now)) (λ two. slots_of cell.now ≡ Two two.0.items two.1.items)) }
 {
     match cell {
@@ -126,7 +124,9 @@ pub(crate) fn least_lookback_conflict(
     grammar: &Grammar,
     lookbacks: &[Members],
 ) -> Result<Option<LookbackConflict>, AllocError>
-    requires { AreLookbacks grammar.now lookbacks.now }
+    requires well_formed { IsWellFormed grammar.now }
+    requires reduced { IsReduced grammar.now }
+    requires lookbacks { AreLookbacks grammar.now lookbacks.now }
     ensures { IfOk result (λ o. MatchOption o (IsLlp grammar.now × TellLookbacks grammar.now lookbacks.now) (λ k. IsLeastLookbackConflict grammar.now k.a k.b k.first.items k.second.items)) }
 {
     let count = grammar.terminals().len() as u16 + 2;
