@@ -5,8 +5,8 @@ use Rattle.llp_tables.specs.Offers.{Offers}
 use Rattle.llp_tables.proofs.Settling.{IsSettling}
 use Rattle.llp_tables.proofs.members.least_members.Given as goal
 
-abbrev pub invariant-loop-pending : goal.invariant-loop-pending
-invariant-loop-pending l =
+abbrev pub invariant-loop-next : goal.invariant-loop-next
+invariant-loop-next l =
     record {
       terminals : length l.members.terminals.items ≡ length l.grammar.terminals + 2;
       nonterminals : length l.members.nonterminals.items ≡ length l.grammar.nonterminals;
@@ -14,5 +14,5 @@ invariant-loop-pending l =
       next : Offers (cell_of l.members) (IsForcedIn l.nullable l.first l.b l.grammar (cell_of l.members)) None l.next;
     }
 
-abbrev pub decreases-loop-pending : goal.decreases-loop-pending
-decreases-loop-pending l = room_of l.members
+abbrev pub decreases-loop-next : goal.decreases-loop-next
+decreases-loop-next l = room_of l.members
