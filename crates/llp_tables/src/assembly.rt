@@ -124,6 +124,8 @@ pub(crate) fn tables_by(
     nullable: &[bool],
     lookbacks: &[Members],
 ) -> Result<Tables, AllocError>
+    requires well_formed { IsWellFormed grammar.now }
+    requires reduced { IsReduced grammar.now }
     requires ll1 { IsLl1 grammar.now }
     requires llp { IsLlp grammar.now }
     requires nullable { AreMarksOf grammar.now (λ a. IsNullable grammar.now (AnyNonterminal a ∷ [])) nullable.now }

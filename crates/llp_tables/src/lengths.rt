@@ -1,9 +1,5 @@
 // How many productions pieces take. No clause rests on these counts: they are the capacity that is reserved for all pieces.
 
-ghost use Rattle.std.specs.Prelude.{IfOk};
-ghost use Rattle.grammar_file.specs.Grammar.{IsWellFormed};
-ghost use Rattle.grammar_file.specs.Spelling.{IsReduced};
-
 use crate::predicted::prediction_of;
 use crate::sets::mark_of;
 use grammar_file::{Grammar, Production, Symbol};
@@ -59,10 +55,7 @@ fn next_length(productions: &[Production], lengths: &[Option<u64>]) -> Option<(u
 pub(crate) fn empty_lengths(
     alloc: Global,
     grammar: &Grammar,
-) -> Result<Vec<Option<u64>>, AllocError>
-    ensures well_formed { IfOk result (λ v. IsWellFormed grammar.now) }
-    ensures reduced { IfOk result (λ v. IsReduced grammar.now) }
-{
+) -> Result<Vec<Option<u64>>, AllocError> {
     let productions = grammar.productions();
     let mut lengths = vec![in alloc; None; grammar.nonterminals().len()]?;
     for _ in 0..grammar.nonterminal_count() {

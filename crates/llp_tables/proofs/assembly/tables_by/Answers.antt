@@ -10,4 +10,4 @@ returns c =
     let rows = c.add_rows.new.rows in
     let same = c.new.ensures ∙ ap (λ w. record { width = w; entries = map (entry_in rows.productions.items) rows.pieces.items }) c.width_of-width.ensures in
     subst (AreTablesOf g) (sym same)
-    (table_of_rows g c.in_ok-lengths.ensures.well_formed c.requires.ll1 c.requires.llp rows.pieces.items rows.productions.items c.in_ok-add_rows.ensures.len c.in_ok-add_rows.ensures.rows)
+    (table_of_rows g c.requires.well_formed c.requires.ll1 c.requires.llp rows.pieces.items rows.productions.items c.in_ok-add_rows.ensures.len c.in_ok-add_rows.ensures.rows)

@@ -9,7 +9,7 @@ loop-i-preserved c =
     let left = c.left_of-left.ensures.left in
     let h = c.loop-i.invariant in
     elim c.if-predicts.branch [
-        then-predicts w ↦
+      | then-predicts w ↦
           let within : c.left_of-left.result < length c.loop-i.predictions.items = let at = c.left_of-left.ensures.within in let len = h.len in omega arith in
           subst (λ v. ArePredictionsBelow g c.args.b (c.loop-i.i + 1) v.items) (sym w.predictions-is)
           (prediction_yes g c.args.b c.loop-i.i c.loop-i.predictions.items h c.left_of-left.result left.0 left.1 left.2 within (c.predicts.ensures.yes w.if-predicts.true))
