@@ -1,12 +1,11 @@
 -- Terminals that the grammar hasn't are in no pair that has a member.
-use Rattle.std.proofs.Common.{◌≡◌, ℕ, ◌+◌, ◌<◌, List, [], ◌∷◌, ◌++◌, length, sym, subst, arith}
+use Rattle.std.proofs.Common.{◌≡◌, ℕ, ◌+◌, ◌<◌, List, [], ◌∷◌, ◌++◌, length, subst, arith}
 use Rattle.std.specs.List.{AllByRecursion}
 use Rattle.grammar_file.specs.declared.symbols.Symbol.{Symbol}
 use Rattle.grammar_file.specs.declared.symbols.Symbol.TheVariants.{Terminal, Nonterminal}
 use Rattle.grammar_file.specs.Grammar.{Grammar, IsSymbol, IsWellFormed}
 use Rattle.grammar_file.specs.Drive.{Reads}
 use Rattle.grammar_file.proofs.Drives.{reads_first}
-use Rattle.llp_tables.specs.Predict.{IsFirst}
 use Rattle.llp_tables.specs.Lookback.{BeginsAtLast, IsLookback}
 use Rattle.llp_tables.specs.Behind.{Behind, here, through, of_start, of_begin}
 use Rattle.llp_tables.proofs.FollowSets.{begins_first}

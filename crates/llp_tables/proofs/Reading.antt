@@ -1,9 +1,9 @@
 -- How a stack reads a terminal by predicted productions.
-use Rattle.std.proofs.Common.{◌≡◌, ℕ, inl, inr, ◌⊎◌, List, [], ◌∷◌, ◌++◌, Option, Some, None, get_or, refl, sym, ap, ◌∙◌, subst, append_assoc, append-nil}
+use Rattle.std.proofs.Common.{◌≡◌, ℕ, inl, inr, List, [], ◌∷◌, ◌++◌, Option, Some, None, get_or, refl, sym, ap, ◌∙◌, subst, append_assoc, append-nil}
 use Rattle.grammar_file.specs.declared.symbols.Symbol.{Symbol}
 use Rattle.grammar_file.specs.declared.symbols.Symbol.TheVariants.{Terminal, Nonterminal}
 use Rattle.grammar_file.specs.Grammar.{Grammar, Production, production}
-use Rattle.grammar_file.specs.Drive.{Drives, Reads, Rule}
+use Rattle.grammar_file.specs.Drive.{Reads, Rule}
 use Rattle.grammar_file.proofs.Words.{same_head, same_tail, same_terminal, same_nonterminal, terminal-nonterminal}
 use Rattle.grammar_file.proofs.Derives.{same_rule}
 use Rattle.grammar_file.proofs.Drives.{no_reads, reads_above, reads_first, first_of_drives}

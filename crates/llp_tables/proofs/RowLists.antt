@@ -1,5 +1,5 @@
 -- Pieces row by row: one more piece, and the table of all.
-use Rattle.std.proofs.Common.{◌≡◌, ◌≢◌, ℕ, suc, ◌+◌, ◌*◌, ◌-◌, ◌<◌, ◌≤◌, ◌⊎◌, inl, inr, List, [], ◌∷◌, ◌++◌, length, map, get_or, take, drop, Bool, true, false, ◌&&◌, nat_lt, if◌then◌else◌, Option, Some, None, refl, sym, ap, ap₂, ◌∙◌, subst, arith, append-nil, length-append, length-drop}
+use Rattle.std.proofs.Common.{◌≡◌, ℕ, suc, ◌+◌, ◌*◌, ◌-◌, ◌<◌, ◌≤◌, ◌⊎◌, inl, inr, List, [], ◌∷◌, ◌++◌, length, map, get_or, take, drop, Bool, true, false, ◌&&◌, nat_lt, if◌then◌else◌, Option, Some, None, refl, sym, ap, ap₂, ◌∙◌, subst, arith, append-nil, length-append, length-drop}
 use Rattle.std.specs.List.{AllByRecursion}
 use Rattle.std.proofs.lemmas.Bool.{cases_lt, ltb-true, lt-ltb, true≢false}
 use Rattle.std.proofs.lemmas.List.{map-append, length-map, get_or_append_left, get_or_at, drop_at, take_all, drop-append-le, take-append-le}
@@ -11,7 +11,7 @@ use Rattle.grammar_file.specs.Grammar.{Grammar, IsWellFormed}
 use Rattle.grammar_file.specs.Spelling.{IsReduced}
 use Rattle.llp_tables.specs.Predict.{IsLl1}
 use Rattle.llp_tables.specs.Lookback.{IsLookback, IsLlp, IsPiece}
-use Rattle.llp_tables.specs.Tables.{Entry, IsEntry, HasEntry, AreTables}
+use Rattle.llp_tables.specs.Tables.{Entry, IsEntry, HasEntry}
 use Rattle.llp_tables.specs.Cells.{IsBefore}
 use Rattle.llp_tables.specs.Slots.{Slots, Empty, One, Two}
 use Rattle.llp_tables.specs.LeastMembers.{KeepsLeast, AreLeastMembers}

@@ -1,4 +1,4 @@
-use Rattle.std.proofs.Common.{◌+◌, ◌<◌, length, ap, sym, subst, ◌∙◌, arith}
+use Rattle.std.proofs.Common.{◌+◌, ◌<◌, length, sym, subst, arith}
 use Rattle.llp_tables.proofs.PredictionLists.{ArePredictionsBelow, prediction_yes, prediction_no, predictions_all}
 use Rattle.llp_tables.proofs.predicted.predictions_by.Goals as goal
 use Rattle.llp_tables.proofs.predicted.predictions_by.Goals.{then-predicts, else-predicts}
