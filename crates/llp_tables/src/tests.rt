@@ -2,6 +2,8 @@
 
 use crate::fault::TableFault;
 use crate::generator::ll1_fault;
+use crate::lookbacks::{least_lookback_conflict, lookbacks};
+use crate::sets::nullable;
 use grammar_file::{G1, Grammar, GrammarFault};
 use std::alloc::Global;
 use std::test::Fail;
@@ -56,6 +58,51 @@ fn least_faults(rt: HostRuntime) -> Result<(), Fail> {
 #[test]
 fn source_grammar(rt: HostRuntime) -> Result<(), Fail> {
     match numbers_of(rt.alloc(), G1) {
+        Ok(found) => assert_eq!(rt; found, [0; 4]),
+        Err(_) => assert!(rt; false, "the grammar of the source language is refused"),
+    }
+    Ok(())
+}
+
+/// The pair of a least conflict of PSLS, and the lengths of its two members.
+fn conflict_of(alloc: Global, text: &[u8]) -> Result<[u64; 4], GrammarFault> {
+    let grammar = Grammar::read(alloc, text)?;
+    let nullable = nullable(alloc, &grammar)?;
+    let lookbacks = lookbacks(alloc, &grammar, nullable.as_slice())?;
+    match least_lookback_conflict(alloc, &grammar, lookbacks.as_slice())? {
+        None => Ok([0; 4]),
+        Some(conflict) => Ok([
+            conflict.a as u64,
+            conflict.b as u64,
+            conflict.first.len() as u64,
+            conflict.second.len() as u64,
+        ]),
+    }
+}
+
+#[test]
+fn lookback_conflicts(rt: HostRuntime) -> Result<(), Fail> {
+    let rows: [(&[u8], [u64; 4]); 4] = [
+        (
+            b"S -> p E q\nS -> c E T q\nE -> i\nT -> d E T\nT ->",
+            [4, 2, 1, 2],
+        ),
+        (b"S -> A b\nA -> a A N\nA -> c\nN ->", [3, 1, 1, 2]),
+        (b"S -> a", [0; 4]),
+        (b"S ->", [0; 4]),
+    ];
+    for (text, numbers) in rows {
+        match conflict_of(rt.alloc(), text) {
+            Ok(found) => assert_eq!(rt; found, numbers),
+            Err(_) => assert!(rt; false, "a grammar is refused"),
+        }
+    }
+    Ok(())
+}
+
+#[test]
+fn source_lookbacks(rt: HostRuntime) -> Result<(), Fail> {
+    match conflict_of(rt.alloc(), G1) {
         Ok(found) => assert_eq!(rt; found, [0; 4]),
         Err(_) => assert!(rt; false, "the grammar of the source language is refused"),
     }
