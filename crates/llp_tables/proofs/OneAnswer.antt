@@ -156,10 +156,10 @@ remainder i w h = mod-lt i (positive i w h)
 pub one_count : (g : Grammar) (m n : ℕ) → CountsPairs g m → CountsPairs g n → m ≡ n
 one_count g m n j k = j.count ∙ ap (count_by (λ mark. mark)) same ∙ sym k.count
   where
-    at_pair : (a b : ℕ) → a < width g → b < width g → get_or j.marks (a * width g + b) false ≡ get_or k.marks (a * width g + b) false
-    at_pair a b p q = go (get_or j.marks (a * width g + b) false) (get_or k.marks (a * width g + b) false) refl refl
+    at_pair : (a b : ℕ) → a < width g → b < width g → get_or j.marks (b * width g + a) false ≡ get_or k.marks (b * width g + a) false
+    at_pair a b p q = go (get_or j.marks (b * width g + a) false) (get_or k.marks (b * width g + a) false) refl refl
       where
-        go : (x y : Bool) → get_or j.marks (a * width g + b) false ≡ x → get_or k.marks (a * width g + b) false ≡ y → get_or j.marks (a * width g + b) false ≡ get_or k.marks (a * width g + b) false
+        go : (x y : Bool) → get_or j.marks (b * width g + a) false ≡ x → get_or k.marks (b * width g + a) false ≡ y → get_or j.marks (b * width g + a) false ≡ get_or k.marks (b * width g + a) false
         go true true e f = e ∙ sym f
         go false false e f = e ∙ sym f
         go true false e f = absurd (k.unmarked a b p q f (j.marked a b p q e))
@@ -168,4 +168,4 @@ one_count g m n j k = j.count ∙ ap (count_by (λ mark. mark)) same ∙ sym k.c
     same : j.marks ≡ k.marks
     same = ext_get_or false j.marks k.marks (j.size ∙ sym k.size) (λ i h.
         let inside : i < width g * width g = subst (λ n. i < n) j.size h in
-        subst (λ i. get_or j.marks i false ≡ get_or k.marks i false) (div-add-mod' i (width g)) (at_pair (i / width g) (i % width g) (quotient i (width g) inside) (remainder i (width g) inside)))
+        subst (λ i. get_or j.marks i false ≡ get_or k.marks i false) (div-add-mod' i (width g)) (at_pair (i % width g) (i / width g) (remainder i (width g) inside) (quotient i (width g) inside)))

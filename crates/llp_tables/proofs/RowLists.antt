@@ -167,7 +167,7 @@ module _ (g : Grammar) where
   -- ---- the table
 
   pub table_of_rows : IsWellFormed g → IsLl1 g → IsLlp g → (pieces : List (Option Piece)) (productions : List ℕ) → length pieces ≡ width_of g * width_of g → AreRows g pieces productions → AreTablesOf g (record { width = width_of g; entries = map (entry_in productions) pieces })
-  table_of_rows well ll1 llp pieces productions len h = record { width_is = refl; tables = record { ll1 = ll1; llp = llp; entries = entries } }
+  table_of_rows well ll1 llp pieces productions len h = record { width_is = refl; size_is = length-map pieces (entry_in productions) ∙ len; tables = record { ll1 = ll1; llp = llp; entries = entries } }
     where
       t : EntryTable
       t = record { width = width_of g; entries = map (entry_in productions) pieces }

@@ -15,4 +15,5 @@ entry_of t a b = if nat_lt a t.width && nat_lt b t.width then slice_index_or t.e
 -- the table of a grammar that is LL(1) and LLP(1,1)
 pub record AreTablesOf (g : Grammar) (t : EntryTable) : Type 0 where
   pub width_is : t.width ≡ length g.terminals + 2
+  pub size_is : length t.entries ≡ t.width * t.width
   pub tables : AreTables g (entry_of t)

@@ -12,10 +12,10 @@ HasMember g a b = (beta : List Symbol) × IsLookback g a b beta
 abbrev pub width : Grammar → ℕ
 width g = length g.terminals + 2
 
--- n pairs are marked, row by row: those with a member
+-- n pairs are marked, in a row for each b: those with a member
 pub record CountsPairs (g : Grammar) (n : ℕ) : Type 0 where
   pub marks : List Bool
   pub size : length marks ≡ width g * width g
-  pub marked : (a b : ℕ) → a < width g → b < width g → get_or marks (a * width g + b) false ≡ true → HasMember g a b
-  pub unmarked : (a b : ℕ) → a < width g → b < width g → get_or marks (a * width g + b) false ≡ false → ¬ HasMember g a b
+  pub marked : (a b : ℕ) → a < width g → b < width g → get_or marks (b * width g + a) false ≡ true → HasMember g a b
+  pub unmarked : (a b : ℕ) → a < width g → b < width g → get_or marks (b * width g + a) false ≡ false → ¬ HasMember g a b
   pub count : n ≡ count_by (λ mark. mark) marks

@@ -3,7 +3,9 @@
 ghost use Rattle.std.specs.Prelude.{◌≡◌, ◌<◌, ◌≤◌, ◌*◌, ◌-◌, ℕ, ◌∷◌, [], length, map, take, drop, Some, None, IfOk, MatchOption, slice_get, slice_index_or, is_some, count_by};
 ghost use Rattle.grammar_file.specs.declared.symbols.Symbol.TheVariants.{Nonterminal as AnyNonterminal};
 ghost use Rattle.std.specs.List.{AllByRecursion};
-ghost use Rattle.llp_tables.specs.EntryTable.{entry_of};
+ghost use Rattle.grammar_file.specs.Grammar.{Grammar as AnyGrammar};
+ghost use Rattle.llp_tables.specs.EntryTable.{AreTablesOf, entry_of};
+ghost use Rattle.llp_tables.specs.Pairs.{CountsPairs};
 ghost use Rattle.llp_tables.specs.PieceRows.{entry_in, IsWithin};
 
 use crate::rows::{Piece, PieceRows};
@@ -99,11 +101,18 @@ impl Tables {
         }
     }
 
-    /// How many pairs have an entry.
-    pub fn entries(&self) -> u64
+    fn piece_count(&self) -> u64
         ensures { result ≡ count_by is_some self.now.entries }
     {
         self.pieces.iter().filter(|piece| piece.is_some()).count() as u64
+    }
+
+    /// How many pairs have an entry.
+    pub fn entries(&self) -> u64
+        ensures count { result ≡ count_by is_some self.now.entries }
+        ensures pairs { (g : AnyGrammar) → AreTablesOf g self.now → CountsPairs g result }
+    {
+        self.piece_count()
     }
 
     /// How many terminals there are, with the two marks.

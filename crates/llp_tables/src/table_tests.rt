@@ -1,37 +1,21 @@
 // The entries of worked grammars, and how many productions are reserved.
 
-ghost use Rattle.llp_tables.specs.Predict.{IsLl1};
-
-use crate::assembly::{length_of_rows, tables_by};
+use crate::assembly::length_of_rows;
 use crate::entry_table::Tables;
-use crate::generator::ll1_fault;
+use crate::fault::TableFault;
 use crate::lengths::empty_lengths;
-use crate::lookbacks::{least_lookback_conflict, lookbacks};
+use crate::lookbacks::lookbacks;
 use crate::sets::nullable;
 use grammar_file::{G1, Grammar, GrammarFault, Symbol};
 use std::alloc::{AllocError, Global};
 use std::test::Fail;
 
-/// The tables of an LL(1) grammar, where it has some.
-fn tables_of_ll1(alloc: Global, grammar: &Grammar) -> Result<Option<Tables>, AllocError>
-    requires { IsLl1 grammar.now }
-{
-    let nullable = nullable(alloc, grammar)?;
-    let lookbacks = lookbacks(alloc, grammar, nullable.as_slice())?;
-    match least_lookback_conflict(alloc, grammar, lookbacks.as_slice())? {
-        Some(_) => Ok(None),
-        None => {
-            let tables = tables_by(alloc, grammar, nullable.as_slice(), lookbacks.as_slice())?;
-            Ok(Some(tables))
-        }
-    }
-}
-
 /// The tables of a grammar, where it has some.
 fn tables_of(alloc: Global, grammar: &Grammar) -> Result<Option<Tables>, AllocError> {
-    match ll1_fault(alloc, grammar)? {
-        Some(_) => Ok(None),
-        None => tables_of_ll1(alloc, grammar),
+    match Tables::build(alloc, grammar) {
+        Ok(tables) => Ok(Some(tables)),
+        Err(TableFault::NoMemory) => Err(AllocError),
+        Err(_) => Ok(None),
     }
 }
 
