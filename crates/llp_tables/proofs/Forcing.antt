@@ -13,8 +13,8 @@ use Rattle.llp_tables.specs.Marking.{vanishes, all_vanish, starts, begins}
 use Rattle.llp_tables.specs.Lookback.{BeginsAtLast}
 use Rattle.llp_tables.specs.Behind.{Behind, here, through, of_start, of_begin}
 use Rattle.llp_tables.specs.Cells.{IsCovered, IsClosedAt, IsClosed}
-use Rattle.llp_tables.specs.Slots.{Slots, Empty, Holds, AreInOrder, covers}
-use Rattle.llp_tables.specs.Forced.{is_stop, IsStop, IsPass, IsForced, IsForcedBy, IsForcedByRules, IsForcedIn}
+use Rattle.llp_tables.specs.Slots.{Slots, Empty, One, Holds, AreInOrder, covers}
+use Rattle.llp_tables.specs.Forced.{is_stop, IsStop, IsPass, IsForced, IsForcedBy, IsForcedByRules, IsForcedIn, IsPassedIn, Forces}
 use Rattle.llp_tables.proofs.FormTests.{both, and, either, or_left, Nullable, First, vanishing, beginning, vanishes_exactly, begins_exactly}
 use Rattle.llp_tables.proofs.FollowMarks.{parts_of, symbol_at, rest_at}
 use Rattle.llp_tables.proofs.Filling.{covers_is}
@@ -37,19 +37,19 @@ module _ (g : Grammar) (nullable first : List Bool) (b : ℕ) (nulls : AreMarksO
       )
 
   module _ (cell : Symbol → Slots) (made : (s : Symbol) (t : List Symbol) → Holds (cell s) t → Behind g s b t) where
-    rule_forces : (s : Symbol) (w : List Symbol) → IsForcedByRules nullable first b g.productions cell (length g.productions) s w → Behind g s b w
-    rule_forces s w h = go h.by.forced
+    rule_forces : (s : Symbol) (w : List Symbol) → IsForcedByRules (Forces nullable first b cell) g.productions (length g.productions) s w → Behind g s b w
+    rule_forces s w h = go h.forced.forced
       where
         front : List Symbol
-        front = take h.by.place h.rule.right
+        front = take h.forced.place h.rule.right
 
         after : List Symbol
-        after = drop (h.by.place + 1) h.rule.right
+        after = drop (h.forced.place + 1) h.rule.right
 
         parts : h.rule.right ≡ front ++ s ∷ after
-        parts = parts_of h.rule.right h.by.place s h.by.symbol_is
+        parts = parts_of h.rule.right h.forced.place s h.forced.symbol_is
 
-        go : IsForced nullable first b after (cell (Nonterminal h.rule.left)) w → Behind g s b w
+        go : IsForced nullable first b (cell (Nonterminal h.rule.left)) after w → Behind g s b w
         go (inl k) = let r = stop_begins after (length after) w k in here (suc h.number) h.rule front after w r.0 s b h.rule_is parts r.1 r.2
         go (inr k) = subst (Behind g s b) (sym k.parts)
             (through (suc h.number) h.rule front after k.member s b h.rule_is parts (vanishing g nullable nulls.sound after k.vanish) (made (Nonterminal h.rule.left) k.member k.held))
@@ -66,10 +66,10 @@ module _ (g : Grammar) (nullable first : List Bool) (b : ℕ) (nulls : AreMarksO
             subst (Behind g (Nonterminal 0) b) (sym front) (subst (λ n. Behind g (Nonterminal 0) n (Terminal (end_mark g) ∷ [])) same of_start)
         go (suc place) l is stops front = absurd (omega arith)
 
-    whole_forces : (s : Symbol) (w : List Symbol) → IsForcedBy nullable first b (whole g) Empty (length (whole g)) s w → Behind g s b w
+    whole_forces : (s : Symbol) (w : List Symbol) → IsForcedBy (IsForced nullable first b Empty) (whole g) (length (whole g)) s w → Behind g s b w
     whole_forces s w h = go h.place h.symbol_is h.forced
       where
-        go : (place : ℕ) → slice_get (whole g) place ≡ Some s → IsForced nullable first b (drop (place + 1) (whole g)) Empty w → Behind g s b w
+        go : (place : ℕ) → slice_get (whole g) place ≡ Some s → IsForced nullable first b Empty (drop (place + 1) (whole g)) w → Behind g s b w
         go place is (inr k) = absurd (k.held)
         go zero is (inl k) =
             let r = stop_begins (Nonterminal 0 ∷ Terminal (end_mark g) ∷ []) 2 w k in
@@ -81,6 +81,19 @@ module _ (g : Grammar) (nullable first : List Bool) (b : ℕ) (nulls : AreMarksO
     pub forced_behind : (s : Symbol) (w : List Symbol) → IsForcedIn nullable first b g cell s w → Behind g s b w
     forced_behind s w (inl h) = whole_forces s w h
     forced_behind s w (inr h) = rule_forces s w h
+
+  -- what a member passes on is one
+  pub passed_behind : (owner : Symbol) (w : List Symbol) → Behind g owner b w → (s : Symbol) (v : List Symbol) → IsPassedIn nullable g owner w s v → Behind g s b v
+  passed_behind owner w m s v h =
+      subst (Behind g s b) (sym k.parts)
+      (through (suc h.number) h.rule (take place h.rule.right) (drop (place + 1) h.rule.right) k.member s b h.rule_is (parts_of h.rule.right place s h.forced.1.symbol_is) (vanishing g nullable nulls.sound (drop (place + 1) h.rule.right) k.vanish)
+      (subst (λ x. Behind g x b k.member) (sym h.forced.0) (subst (Behind g owner b) (sym k.held) m)))
+    where
+      place : ℕ
+      place = h.forced.1.place
+
+      k : IsPass nullable (One w) (drop (place + 1) h.rule.right) v
+      k = h.forced.1.forced
 
   -- ---- and all that is so is forced
 
@@ -117,7 +130,7 @@ module _ (g : Grammar) (nullable first : List Bool) (b : ℕ) (nulls : AreMarksO
     forced_covered : (s : Symbol) (w : List Symbol) → IsForcedIn nullable first b g cell s w → IsCovered (Holds (cell s)) w
     forced_covered s w h = covers_is (cell s) w (ordered s) (all s w h)
 
-    rule_covered : (s : Symbol) (p : ℕ) (rule : Production) (before after w : List Symbol) → production g p ≡ Some rule → rule.right ≡ before ++ s ∷ after → IsForced nullable first b after (cell (Nonterminal rule.left)) w → IsCovered (Holds (cell s)) w
+    rule_covered : (s : Symbol) (p : ℕ) (rule : Production) (before after w : List Symbol) → production g p ≡ Some rule → rule.right ≡ before ++ s ∷ after → IsForced nullable first b (cell (Nonterminal rule.left)) after w → IsCovered (Holds (cell s)) w
     rule_covered s zero rule before after w is parts h = absurd (none-some rule is)
     rule_covered s (suc p) rule before after w is parts h =
         forced_covered s w (inr (record {
@@ -125,11 +138,11 @@ module _ (g : Grammar) (nullable first : List Bool) (b : ℕ) (nulls : AreMarksO
           fewer = slice_get_within g.productions p rule is;
           rule = rule;
           rule_is = is;
-          by = record {
+          forced = record {
             place = length before;
             below = slice_get_within rule.right (length before) s there;
             symbol_is = there;
-            forced = subst (λ f. IsForced nullable first b f (cell (Nonterminal rule.left)) w) (sym (ap (λ (f : List Symbol). drop (length before + 1) f) parts ∙ rest_at before s after)) h;
+            forced = subst (λ f. IsForced nullable first b (cell (Nonterminal rule.left)) f w) (sym (ap (λ (f : List Symbol). drop (length before + 1) f) parts ∙ rest_at before s after)) h;
           };
         }))
       where

@@ -39,7 +39,7 @@ module _ (g : Grammar) where
 
   -- ---- the terminals that predict
 
-  pub left_within : (u v : List Symbol) → AllByRecursion (IsSymbol g) (u ++ v) → AllByRecursion (IsSymbol g) u
+  left_within : (u v : List Symbol) → AllByRecursion (IsSymbol g) (u ++ v) → AllByRecursion (IsSymbol g) u
   left_within [] v h = tt
   left_within (s ∷ u) v h = (h.0, left_within u v h.1)
 

@@ -9,7 +9,7 @@ ghost use Rattle.llp_tables.specs.CellSlots.{cell_of};
 ghost use Rattle.llp_tables.specs.LeastMembers.{AreLeastMembers};
 
 use crate::cells::Members;
-use crate::pending::next_pending;
+use crate::pending::{add_passes, first_pending, least_pending};
 use grammar_file::Grammar;
 use std::alloc::{AllocError, Global};
 
@@ -30,11 +30,12 @@ pub(crate) fn least_members(
 {
     let terminals = grammar.terminals().len() + 2;
     let mut members = Members::new(alloc, terminals, grammar.nonterminals().len())?;
-    let mut next = next_pending(alloc, grammar, nullable, first, b, &members)?;
-    while let Some(pending) = next {
-        members.add(pending.symbol, pending.stack);
-        let more = next_pending(alloc, grammar, nullable, first, b, &members)?;
-        next = more;
+    let mut pending = first_pending(alloc, grammar, nullable, first, b)?;
+    while let Some(least) = least_pending(&members, pending.as_slice()) {
+        let symbol = least.symbol;
+        let stack = Vec::from_slice(alloc, &least.stack)?;
+        add_passes(alloc, grammar, nullable, symbol, &stack, &mut pending)?;
+        members.add(symbol, stack);
     }
     Ok(members)
 }

@@ -1,15 +1,13 @@
-// The least string that a grammar's places force into a cell, and that no cell covers yet.
+// The strings that wait to come into a cell: what a grammar's places force there.
 
-ghost use Rattle.std.specs.Prelude.{◌≡◌, ◌<◌, ◌+◌, ◌++◌, ℕ, List, length, take, get_or, slice_get, true, Some, None, IfOk};
-ghost use Rattle.grammar_file.specs.declared.symbols.Symbol.{Symbol as AnySymbol};
+ghost use Rattle.std.specs.Prelude.{◌≡◌, ◌<◌, ◌+◌, ◌++◌, List, [], ◌∷◌, length, take, get_or, true, IfOk, MatchOption};
 ghost use Rattle.grammar_file.specs.declared.symbols.Symbol.TheVariants.{Terminal as AnyTerminal, Nonterminal as AnyNonterminal};
-ghost use Rattle.grammar_file.specs.Grammar.{Production as AnyProduction};
-ghost use Rattle.llp_tables.specs.CellSlots.{slots_of, cell_of};
-ghost use Rattle.llp_tables.specs.Forced.{IsStop, IsForced, IsForcedBy, IsForcedByRules, IsForcedIn, is_stop};
-ghost use Rattle.llp_tables.specs.Offers.{Offers};
-ghost use Rattle.llp_tables.specs.Slots.{Holds};
+ghost use Rattle.llp_tables.specs.CellSlots.{cell_of};
+ghost use Rattle.llp_tables.specs.Forced.{Forces, IsForced, IsForcedBy, IsForcedByRules, IsForcedIn, IsPass, IsPassedIn, IsStop, Passes, is_stop, no_strings};
+ghost use Rattle.llp_tables.specs.Waiting.{Adds, AreCovered, IsLeastWaiting};
+ghost use Rattle.llp_tables.specs.Slots.{Empty, One};
 
-use crate::cells::{Cell, Members};
+use crate::cells::Members;
 use crate::order::is_before;
 use crate::sets::{all_vanish, starts};
 use grammar_file::{Grammar, Production, Symbol};
@@ -22,30 +20,6 @@ pub(crate) struct Pending {
     pub stack: Vec<Symbol>,
 }
 
-/// The lesser of the best so far and a string, unless the symbol's cell covers it.
-fn offer(
-    members: &Members,
-    symbol: Symbol,
-    w: Vec<Symbol>,
-    best: Option<Pending>,
-) -> Option<Pending>
-    ensures { Offers (cell_of members.now) (λ s v. (s ≡ symbol) × (v ≡ w.items)) best result }
-{
-    if members.covers(symbol, &w) {
-        return best;
-    }
-    match best {
-        None => Some(Pending { symbol, stack: w }),
-        Some(pending) => {
-            if is_before(&w, &pending.stack) {
-                Some(Pending { symbol, stack: w })
-            } else {
-                Some(pending)
-            }
-        }
-    }
-}
-
 /// Whether b may begin at the symbol j of what stands after a place.
 fn is_stop(nullable: &[bool], first: &[bool], b: u16, after: &[Symbol], j: usize) -> bool
     requires { j < length after.now }
@@ -54,47 +28,108 @@ fn is_stop(nullable: &[bool], first: &[bool], b: u16, after: &[Symbol], j: usize
     all_vanish(nullable, &after[..j]) && starts(first, b, after[j])
 }
 
-/// Offers the front of `after` that ends with its symbol j, where b may begin there.
-fn offer_stop(
+/// Adds the front of `after` that ends with its symbol j, where b may begin there.
+fn add_stop(
     alloc: Global,
     nullable: &[bool],
     first: &[bool],
     b: u16,
     after: &[Symbol],
     j: usize,
-    members: &Members,
     symbol: Symbol,
-    best: Option<Pending>,
-) -> Result<Option<Pending>, AllocError>
+    pending: &mut Vec<Pending>,
+) -> Result<(), AllocError>
     requires { j < length after.now }
-    ensures { IfOk result (λ new. Offers (cell_of members.now) (λ s w. (s ≡ symbol) × (is_stop nullable.now first.now b (take j after.now) (get_or after.now j (AnyTerminal 0)) ≡ true) × (w ≡ take (j + 1) after.now)) best new) }
+    ensures { IfOk result (λ u. Adds (λ s w. (s ≡ symbol) × (is_stop nullable.now first.now b (take j after.now) (get_or after.now j (AnyTerminal 0)) ≡ true) × (w ≡ take (j + 1) after.now)) pending.old.items pending.new.items) }
 {
     if !is_stop(nullable, first, b, after, j) {
-        return Ok(best);
+        return Ok(());
     }
-    let w = Vec::from_slice(alloc, &after[..j + 1])?;
-    Ok(offer(members, symbol, w, best))
+    let stack = Vec::from_slice(alloc, &after[..j + 1])?;
+    pending.push(Pending { symbol, stack })?;
+    Ok(())
 }
 
-/// Offers each front of `after` at whose last symbol b may begin.
-fn offer_stops(
+/// Adds each front of `after` at whose last symbol b may begin.
+fn add_stops(
     alloc: Global,
     nullable: &[bool],
     first: &[bool],
     b: u16,
     after: &[Symbol],
-    members: &Members,
     symbol: Symbol,
-    best: Option<Pending>,
-) -> Result<Option<Pending>, AllocError>
-    ensures { IfOk result (λ new. Offers (cell_of members.now) (λ s w. (s ≡ symbol) × IsStop nullable.now first.now b after.now (length after.now) w) best new) }
+    pending: &mut Vec<Pending>,
+) -> Result<(), AllocError>
+    ensures { IfOk result (λ u. Adds (λ s w. (s ≡ symbol) × IsStop nullable.now first.now b after.now (length after.now) w) pending.old.items pending.new.items) }
 {
-    let mut least = best;
     for j in 0..after.len() {
-        let next = offer_stop(alloc, nullable, first, b, after, j, members, symbol, least)?;
-        least = next;
+        add_stop(alloc, nullable, first, b, after, j, symbol, pending)?;
     }
-    Ok(least)
+    Ok(())
+}
+
+/// Adds the stops behind the places of a right side.
+fn add_stops_in(
+    alloc: Global,
+    nullable: &[bool],
+    first: &[bool],
+    b: u16,
+    right: &[Symbol],
+    pending: &mut Vec<Pending>,
+) -> Result<(), AllocError>
+    ensures { IfOk result (λ u. Adds (IsForcedBy (IsForced nullable.now first.now b Empty) right.now (length right.now)) pending.old.items pending.new.items) }
+{
+    for k in 0..right.len() {
+        let after = &right[k + 1..];
+        add_stops(alloc, nullable, first, b, after, right[k], pending)?;
+    }
+    Ok(())
+}
+
+/// Adds the stops behind the places of all right sides.
+fn add_stops_of(
+    alloc: Global,
+    nullable: &[bool],
+    first: &[bool],
+    b: u16,
+    productions: &[Production],
+    pending: &mut Vec<Pending>,
+) -> Result<(), AllocError>
+    ensures { IfOk result (λ u. Adds (IsForcedByRules (Forces nullable.now first.now b no_strings) productions.now (length productions.now)) pending.old.items pending.new.items) }
+{
+    for i in 0..productions.len() {
+        let right = productions[i].right();
+        add_stops_in(alloc, nullable, first, b, right, pending)?;
+    }
+    Ok(())
+}
+
+/// The strings that are forced into the cells while there is nothing in any.
+pub(crate) fn first_pending(
+    alloc: Global,
+    grammar: &Grammar,
+    nullable: &[bool],
+    first: &[bool],
+    b: u16,
+) -> Result<Vec<Pending>, AllocError>
+    ensures { IfOk result (λ pending. Adds (IsForcedIn nullable.now first.now b grammar.now no_strings) [] pending.items) }
+{
+    let whole = [
+        Symbol::Terminal(0),
+        Symbol::Nonterminal(0),
+        grammar.end_mark(),
+    ];
+    let mut pending = Vec::new(alloc);
+    add_stops_in(alloc, nullable, first, b, &whole, &mut pending)?;
+    add_stops_of(
+        alloc,
+        nullable,
+        first,
+        b,
+        grammar.productions(),
+        &mut pending,
+    )?;
+    Ok(pending)
 }
 
 /// One string behind another.
@@ -106,177 +141,132 @@ fn joined(alloc: Global, above: &[Symbol], below: &[Symbol]) -> Result<Vec<Symbo
     Ok(w)
 }
 
-/// Offers `after` with one string behind it.
-fn offer_joined(
+/// Adds `after` with a string behind it, where `after` may derive nothing.
+fn add_pass(
     alloc: Global,
+    nullable: &[bool],
     after: &[Symbol],
     below: &[Symbol],
-    members: &Members,
     symbol: Symbol,
-    best: Option<Pending>,
-) -> Result<Option<Pending>, AllocError>
-    ensures { IfOk result (λ new. Offers (cell_of members.now) (λ s w. (s ≡ symbol) × (w ≡ after.now ++ below.now)) best new) }
+    pending: &mut Vec<Pending>,
+) -> Result<(), AllocError>
+    ensures { IfOk result (λ u. Adds (λ s w. (s ≡ symbol) × IsPass nullable.now (One below.now) after.now w) pending.old.items pending.new.items) }
 {
-    let w = joined(alloc, after, below)?;
-    Ok(offer(members, symbol, w, best))
-}
-
-/// Offers `after` with each string of the cell behind it.
-fn offer_held(
-    alloc: Global,
-    after: &[Symbol],
-    owner: &Cell,
-    members: &Members,
-    symbol: Symbol,
-    best: Option<Pending>,
-) -> Result<Option<Pending>, AllocError>
-    ensures { IfOk result (λ new. Offers (cell_of members.now) (λ s w. (s ≡ symbol) × ((m : List AnySymbol) × Holds (slots_of owner.now) m × (w ≡ after.now ++ m))) best new) }
-{
-    match owner {
-        Cell::Nothing => Ok(best),
-        Cell::Least(x) => {
-            let least = offer_joined(alloc, after, x, members, symbol, best)?;
-            Ok(least)
-        }
-        Cell::TwoLeast(x, y) => {
-            let lesser = offer_joined(alloc, after, x, members, symbol, best)?;
-            let least = offer_joined(alloc, after, y, members, symbol, lesser)?;
-            Ok(least)
-        }
+    if !all_vanish(nullable, after) {
+        return Ok(());
     }
+    let stack = joined(alloc, after, below)?;
+    pending.push(Pending { symbol, stack })?;
+    Ok(())
 }
 
-/// Offers what a place forces behind the symbol that stands there.
-fn offer_place(
+/// Adds what the places of a right side pass on of a string that stands behind its nonterminal.
+fn add_passes_in(
     alloc: Global,
     nullable: &[bool],
-    first: &[bool],
-    b: u16,
-    after: &[Symbol],
-    owner: &Cell,
-    members: &Members,
-    symbol: Symbol,
-    best: Option<Pending>,
-) -> Result<Option<Pending>, AllocError>
-    ensures { IfOk result (λ new. Offers (cell_of members.now) (λ s w. (s ≡ symbol) × IsForced nullable.now first.now b after.now (slots_of owner.now) w) best new) }
-{
-    let least = offer_stops(alloc, nullable, first, b, after, members, symbol, best)?;
-    if all_vanish(nullable, after) {
-        let held = offer_held(alloc, after, owner, members, symbol, least)?;
-        Ok(held)
-    } else {
-        Ok(least)
-    }
-}
-
-/// Offers what the places of a right side force.
-fn offer_right(
-    alloc: Global,
-    nullable: &[bool],
-    first: &[bool],
-    b: u16,
     right: &[Symbol],
-    owner: &Cell,
-    members: &Members,
-    best: Option<Pending>,
-) -> Result<Option<Pending>, AllocError>
-    ensures { IfOk result (λ new. Offers (cell_of members.now) (IsForcedBy nullable.now first.now b right.now (slots_of owner.now) (length right.now)) best new) }
+    below: &[Symbol],
+    pending: &mut Vec<Pending>,
+) -> Result<(), AllocError>
+    ensures { IfOk result (λ u. Adds (IsForcedBy (IsPass nullable.now (One below.now)) right.now (length right.now)) pending.old.items pending.new.items) }
 {
-    let mut least = best;
     for k in 0..right.len() {
         let after = &right[k + 1..];
-        let next = offer_place(
-            alloc, nullable, first, b, after, owner, members, right[k], least,
-        )?;
-        least = next;
+        add_pass(alloc, nullable, after, below, right[k], pending)?;
     }
-    Ok(least)
+    Ok(())
 }
 
-/// Offers what the places of a production force.
-fn offer_rule(
+/// The same for a production, if it is one of the nonterminal a.
+fn add_passes_of(
     alloc: Global,
     nullable: &[bool],
-    first: &[bool],
-    b: u16,
     rule: &Production,
-    members: &Members,
-    best: Option<Pending>,
-) -> Result<Option<Pending>, AllocError>
-    requires { rule.now.left < length members.now.nonterminals.items }
-    ensures { IfOk result (λ new. Offers (cell_of members.now) (IsForcedBy nullable.now first.now b rule.now.right (cell_of members.now (AnyNonterminal rule.now.left)) (length rule.now.right)) best new) }
+    a: u16,
+    below: &[Symbol],
+    pending: &mut Vec<Pending>,
+) -> Result<(), AllocError>
+    ensures { IfOk result (λ u. Adds (Passes nullable.now (AnyNonterminal a) below.now rule.now) pending.old.items pending.new.items) }
 {
-    let owner = members.nonterminal(rule.left());
-    let least = offer_right(
-        alloc,
-        nullable,
-        first,
-        b,
-        rule.right(),
-        owner,
-        members,
-        best,
-    )?;
-    Ok(least)
+    if rule.left() != a {
+        return Ok(());
+    }
+    add_passes_in(alloc, nullable, rule.right(), below, pending)
 }
 
-/// Offers what the places of all right sides force.
-fn offer_rules(
+/// The same for all productions.
+fn add_all_passes(
     alloc: Global,
     nullable: &[bool],
-    first: &[bool],
-    b: u16,
     productions: &[Production],
-    members: &Members,
-    best: Option<Pending>,
-) -> Result<Option<Pending>, AllocError>
-    requires { (i : ℕ) (rule : AnyProduction) → slice_get productions.now i ≡ Some rule → rule.left < length members.now.nonterminals.items }
-    ensures { IfOk result (λ new. Offers (cell_of members.now) (IsForcedByRules nullable.now first.now b productions.now (cell_of members.now) (length productions.now)) best new) }
+    a: u16,
+    below: &[Symbol],
+    pending: &mut Vec<Pending>,
+) -> Result<(), AllocError>
+    ensures { IfOk result (λ u. Adds (IsForcedByRules (Passes nullable.now (AnyNonterminal a) below.now) productions.now (length productions.now)) pending.old.items pending.new.items) }
 {
-    let mut least = best;
     for i in 0..productions.len() {
         let rule = &productions[i];
-        let next = offer_rule(alloc, nullable, first, b, rule, members, least)?;
-        least = next;
+        add_passes_of(alloc, nullable, rule, a, below, pending)?;
     }
-    Ok(least)
+    Ok(())
 }
 
-/// The least string that is forced and not covered.
-pub(crate) fn next_pending(
+/// Adds what is forced since a string has come into the cell of a symbol.
+pub(crate) fn add_passes(
     alloc: Global,
     grammar: &Grammar,
     nullable: &[bool],
-    first: &[bool],
-    b: u16,
-    members: &Members,
-) -> Result<Option<Pending>, AllocError>
-    requires { length grammar.now.nonterminals ≡ length members.now.nonterminals.items }
-    ensures { IfOk result (λ new. Offers (cell_of members.now) (IsForcedIn nullable.now first.now b grammar.now (cell_of members.now)) None new) }
+    symbol: Symbol,
+    below: &[Symbol],
+    pending: &mut Vec<Pending>,
+) -> Result<(), AllocError>
+    ensures { IfOk result (λ u. Adds (IsPassedIn nullable.now grammar.now symbol below.now) pending.old.items pending.new.items) }
 {
-    let whole = [
-        Symbol::Terminal(0),
-        Symbol::Nonterminal(0),
-        grammar.end_mark(),
-    ];
-    let least = offer_right(
-        alloc,
-        nullable,
-        first,
-        b,
-        &whole,
-        &Cell::Nothing,
-        members,
-        None,
-    )?;
-    let all = offer_rules(
-        alloc,
-        nullable,
-        first,
-        b,
-        grammar.productions(),
-        members,
-        least,
-    )?;
-    Ok(all)
+    match symbol {
+        Symbol::Terminal(_) => Ok(()),
+        Symbol::Nonterminal(a) => {
+            add_all_passes(alloc, nullable, grammar.productions(), a, below, pending)
+        }
+    }
+}
+
+/// The lesser of the least string so far and the next one, unless the cell of that one covers it.
+fn lesser<'a>(
+    members: &Members,
+    best: Option<&'a Pending>,
+    next: &'a Pending,
+) -> Option<&'a Pending>
+    ensures { (xs : List Pending) → MatchOption best.entry (AreCovered xs (cell_of members.now)) (λ p. IsLeastWaiting xs (cell_of members.now) p.now) → MatchOption result (AreCovered (xs ++ next.now ∷ []) (cell_of members.now)) (λ p. IsLeastWaiting (xs ++ next.now ∷ []) (cell_of members.now) p.now) }
+{
+    match best {
+        None => {
+            if members.covers(next.symbol, &next.stack) {
+                None
+            } else {
+                Some(next)
+            }
+        }
+        Some(least) => {
+            if !is_before(&next.stack, &least.stack) {
+                return Some(least);
+            }
+            if members.covers(next.symbol, &next.stack) {
+                Some(least)
+            } else {
+                Some(next)
+            }
+        }
+    }
+}
+
+/// The least string that waits and that no cell covers.
+pub(crate) fn least_pending<'a>(members: &Members, pending: &'a [Pending]) -> Option<&'a Pending>
+    ensures { MatchOption result (AreCovered pending.now (cell_of members.now)) (λ p. IsLeastWaiting pending.now (cell_of members.now) p.now) }
+{
+    let mut best = None;
+    for i in 0..pending.len() {
+        best = lesser(members, best, &pending[i]);
+    }
+    best
 }

@@ -1,54 +1,58 @@
-use Rattle.std.proofs.Common.{◌≡◌, ◌+◌, Some, None, sym, ap, subst, ◌∙◌, arith, length}
+use Rattle.std.proofs.Common.{◌≡◌, ◌+◌, ap, length, subst, ◌∙◌}
+use Rattle.grammar_file.specs.declared.symbols.Symbol.{Symbol}
 use Rattle.llp_tables.specs.CellSlots.{cell_of}
-use Rattle.llp_tables.specs.Forced.{IsForcedIn}
-use Rattle.llp_tables.specs.Offers.{Offers}
-use Rattle.llp_tables.proofs.Settling.{settling_start, settling_on, settled, found, room_left, room_less, other_or_same, forced_has_cell}
+use Rattle.llp_tables.specs.Forced.{IsPassedIn}
+use Rattle.llp_tables.specs.Slots.{add}
+use Rattle.llp_tables.specs.Waiting.{Adds, AreCovered, IsLeastWaiting}
+use Rattle.llp_tables.proofs.Settling.{settling_start, settling_on, settled, room_left, room_less, other_or_same, member_has_cell}
 use Rattle.llp_tables.proofs.members.least_members.Goals as goal
 
-pub loop-next-init : goal.loop-next-init
-loop-next-init c =
+pub loop-least-init : goal.loop-least-init
+loop-least-init c =
     let e = c.in_ok-members.ensures in
     record {
       terminals = e.terminals ∙ ap (λ ts. length ts + 2) c.terminals.ensures.names;
       nonterminals = e.nonterminals ∙ ap length c.nonterminals.ensures.names;
-      settling = settling_start c.args.grammar.now c.args.nullable.now c.args.first.now c.args.b (cell_of c.in_ok-members.members) e.empty;
-      next = c.in_ok-next.ensures;
+      settling = settling_start c.args.grammar.now c.args.nullable.now c.args.first.now c.args.b c.requires.nullable c.requires.first (cell_of c.in_ok-members.members) c.in_ok-pending.pending.items e.empty c.in_ok-pending.ensures;
     }
 
 pub add-requires : goal.add-requires
 add-requires c =
-    let g = c.args.grammar.now in
-    let members = c.loop-next.members in
-    let p = c.in-Some.pending in
-    let next = subst (λ o. Offers (cell_of members) (IsForcedIn c.args.nullable.now c.args.first.now c.args.b g (cell_of members)) None o) c.in-Some.is c.loop-next.invariant.next in
-    let at = found g c.args.nullable.now c.args.first.now c.args.b (cell_of members) (cell_of members) p c.loop-next.invariant.settling next in
-    forced_has_cell g c.args.nullable.now c.args.first.now c.args.b (cell_of members) members c.requires.well_formed c.loop-next.invariant.terminals c.loop-next.invariant.nonterminals p.symbol p.stack.items at.0
+    let i = c.loop-least.invariant in
+    let next = subst (λ ps. IsLeastWaiting ps (cell_of c.loop-least.members) c.in-Some.least.now) c.as_slice.ensures.value c.in-Some.ensures in
+    member_has_cell c.args.grammar.now c.args.b c.loop-least.members c.requires.well_formed i.terminals i.nonterminals c.in-Some.least.now.symbol c.in-Some.least.now.stack.items (i.settling.waits c.in-Some.least.now.symbol c.in-Some.least.now.stack.items next.waiting)
 
-pub loop-next-smaller : goal.loop-next-smaller
-loop-next-smaller c =
+pub loop-least-smaller : goal.loop-least-smaller
+loop-least-smaller c =
     let g = c.args.grammar.now in
-    let members = c.loop-next.members in
-    let p = c.in-Some.pending in
-    let next = subst (λ o. Offers (cell_of members) (IsForcedIn c.args.nullable.now c.args.first.now c.args.b g (cell_of members)) None o) c.in-Some.is c.loop-next.invariant.next in
-    room_less members c.add.new.self p.symbol p.stack.items (room_left g c.args.nullable.now c.args.first.now c.args.b (cell_of members) (cell_of c.add.new.self) p c.loop-next.invariant.settling next) c.add.ensures.here c.add.ensures.room
+    let old = c.loop-least.members in
+    let p = c.in-Some.least.now in
+    let next = subst (λ ps. IsLeastWaiting ps (cell_of old) p) c.as_slice.ensures.value c.in-Some.ensures in
+    let same : c.in_ok-stack.stack.items ≡ p.stack.items = c.in_ok-stack.ensures.items ∙ c.deref.ensures.value in
+    room_less old c.add.new.self p.symbol p.stack.items (room_left g c.args.nullable.now c.args.first.now c.args.b c.requires.nullable c.requires.first (cell_of old) (cell_of c.add.new.self) c.loop-least.pending.items c.add_passes.new.pending.items p c.loop-least.invariant.settling next)
+    (c.add.ensures.here ∙ ap (λ x. add x (cell_of old p.symbol)) same) c.add.ensures.room
 
-pub loop-next-preserved : goal.loop-next-preserved
-loop-next-preserved c =
+pub loop-least-preserved : goal.loop-least-preserved
+loop-least-preserved c =
     let g = c.args.grammar.now in
-    let members = c.loop-next.members in
-    let p = c.in-Some.pending in
-    let next = subst (λ o. Offers (cell_of members) (IsForcedIn c.args.nullable.now c.args.first.now c.args.b g (cell_of members)) None o) c.in-Some.is c.loop-next.invariant.next in
+    let nullable = c.args.nullable.now in
+    let old = c.loop-least.members in
+    let p = c.in-Some.least.now in
+    let waiting = c.loop-least.pending.items in
+    let more = c.add_passes.new.pending.items in
+    let next = subst (λ ps. IsLeastWaiting ps (cell_of old) p) c.as_slice.ensures.value c.in-Some.ensures in
+    let same : c.in_ok-stack.stack.items ≡ p.stack.items = c.in_ok-stack.ensures.items ∙ c.deref.ensures.value in
+    let added : Adds (IsPassedIn nullable g p.symbol p.stack.items) waiting more = subst (λ x. Adds (IsPassedIn nullable g p.symbol x) waiting more) (c.deref-in-Some.ensures.value ∙ same) c.in_ok-add_passes.ensures in
     let e = c.add.ensures in
     record {
-      terminals = e.terminals ∙ c.loop-next.invariant.terminals;
-      nonterminals = e.nonterminals ∙ c.loop-next.invariant.nonterminals;
-      settling = settling_on g c.args.nullable.now c.args.first.now c.args.b (cell_of members) (cell_of c.add.new.self) p c.loop-next.invariant.settling next c.requires.nullable c.requires.first e.here (other_or_same members c.add.new.self p.symbol e.there);
-      next = c.in_ok-more.ensures;
+      terminals = e.terminals ∙ c.loop-least.invariant.terminals;
+      nonterminals = e.nonterminals ∙ c.loop-least.invariant.nonterminals;
+      settling = settling_on g nullable c.args.first.now c.args.b c.requires.nullable c.requires.first (cell_of old) (cell_of c.add.new.self) waiting more p c.loop-least.invariant.settling next
+          (e.here ∙ ap (λ x. add x (cell_of old p.symbol)) same) (other_or_same old c.add.new.self p.symbol e.there) added;
     }
 
 pub returns-clause-least : goal.returns-clause-least
 returns-clause-least c =
-    let g = c.args.grammar.now in
-    let members = c.loop-next.members in
-    let next = subst (λ o. Offers (cell_of members) (IsForcedIn c.args.nullable.now c.args.first.now c.args.b g (cell_of members)) None o) c.in_default.is c.loop-next.invariant.next in
-    settled g c.args.nullable.now c.args.first.now c.args.b (cell_of members) c.requires.nullable c.requires.first c.loop-next.invariant.settling next
+    let members = c.loop-least.members in
+    let none = subst (λ ps. AreCovered ps (cell_of members)) c.as_slice.ensures.value c.in_default.ensures in
+    settled c.args.grammar.now c.args.nullable.now c.args.first.now c.args.b c.requires.nullable c.requires.first (cell_of members) c.loop-least.pending.items c.loop-least.invariant.settling none
