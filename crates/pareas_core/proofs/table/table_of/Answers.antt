@@ -10,7 +10,7 @@ returns-in_ok-lines-in-Ok c =
     let same : done (sizes c.args.grammar.now c.entries.result) ≡ record { status = Done; out = c.in_ok-lines-in-Ok.field-0.items; notes = c.new.result.items } =
     λ i. record { status = Done; out = sym c.in_ok-lines-in-Ok.ensures i; notes = sym c.new.ensures.items i } in
     subst (IsDueOfGrammar c.args.grammar.now) same
-    (sized c.entries.result c.in-Ok.ensures.ok.tables.ll1 c.in-Ok.ensures.ok.tables.llp (c.entries.ensures c.args.grammar.now c.in-Ok.ensures.ok))
+    (sized c.entries.result c.in-Ok.ensures.ok.tables.ll1 c.in-Ok.ensures.ok.tables.llp (c.entries.ensures.pairs c.args.grammar.now c.in-Ok.ensures.ok))
 
 pub returns-in-Err-2 : goal.returns-in-Err-2
 returns-in-Err-2 c =
