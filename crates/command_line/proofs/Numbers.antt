@@ -6,7 +6,7 @@ use Rattle.std.specs.Result.{IsOk}
 use Rattle.std.specs.Str.Parse.{ParsesUnsigned, digits_value, without_leading_plus}
 use Rattle.clap.specs.Values.{IsUnsignedIn}
 use Rattle.clap.specs.Walk.{Text, Row}
-use Rattle.command_line.specs.Ranges.{HasPlan, HasNumbers, of_build, of_run, of_emu}
+use Rattle.command_line.specs.Ranges.{HasPlan, HasNumbers, of_build, of_run, of_emu, of_table}
 
 pub shown : {X Y : Type 0} (f : X → Y) (o : Option X) (y : Y) → option_map f o ≡ Some y → (x : X) × (o ≡ Some x) × (f x ≡ y)
 shown f None y h = cc
@@ -46,3 +46,4 @@ pub run_plan : (rows : List Row) (name : Text) → HasNumbers rows name → name
 run_plan rows name (of_build plan) e = absurd (five_is_not_three (ap length e))
 run_plan rows name (of_run plan steps) e = plan
 run_plan rows name (of_emu steps) e = absurd (e_is_not_r (ap (λ (t : Text). slice_index t 0) e))
+run_plan rows name of_table e = absurd (five_is_not_three (ap length e))

@@ -14,7 +14,7 @@ use Rattle.clap.specs.Walk.{Text, Rule, Row, Held, Names, Outcome, done, waits, 
 use Rattle.clap.specs.Faults.{walk_fault, turn_fault, word_fault, other_fault, step_fault, settle_fault, defaults_fault, check_fault, level_fault, entered_fault, built_fault, fault_of}
 use Rattle.clap.proofs.ValueTestLemmas.{accepts-Accepts}
 use Rattle.command_line.specs.Words.{app, number_option, workers_option, chunk_option, steps_option}
-use Rattle.command_line.specs.Ranges.{HasNumber, HasPlan, HasSteps, HasNumbers, of_build, of_run, of_emu}
+use Rattle.command_line.specs.Ranges.{HasNumber, HasPlan, HasSteps, HasNumbers, of_build, of_run, of_emu, of_table}
 use Rattle.command_line.proofs.Rows.{both_none, AreOptions, IsOption}
 use Rattle.command_line.proofs.Levels.{HasDefault, here, later, level_value}
 
@@ -195,8 +195,11 @@ run_takes word words e f =
 emu_takes : (word : Text) → Takes word (built_sub 2)
 emu_takes word words e f = of_emu (steps_of_words (built_sub 2) words emu_options (here _ refl refl) f)
 
+table_takes : (word : Text) → Takes word (built_sub 3)
+table_takes word words e f = of_table
+
 all_take : (word : Text) → bytes_eq word (codes "help") ≡ false → AllShapes (Takes word) (built app).subs
-all_take word other = (build_takes word, (run_takes word, (emu_takes word, ((λ words e f. absurd (help_asked word other e)), tt))))
+all_take word other = (build_takes word, (run_takes word, (emu_takes word, (table_takes word, ((λ words e f. absurd (help_asked word other e)), tt)))))
 
 -- a subcommand is required
 entered_one : (rows : List Row) (has : Bool) → check_fault (built app).top rows has ≡ [] → has ≡ true

@@ -20,3 +20,4 @@ pub data HasNumbers (rows : List Row) : Text → Type 0 where
   of_build : HasPlan rows → HasNumbers rows (codes "build")
   of_run : HasPlan rows → HasSteps rows → HasNumbers rows (codes "run")
   of_emu : HasSteps rows → HasNumbers rows (codes "emu")
+  of_table : HasNumbers rows (codes "table")

@@ -8,7 +8,7 @@ use Rattle.clap.specs.declared.builder.action.ArgAction.TheVariants.{Set}
 use Rattle.clap.specs.declared.builder.value_parser.ValueParser.{ValueParser}
 use Rattle.clap.specs.declared.builder.value_parser.ValueParser.TheVariants as parsers
 use Rattle.command_line.specs.declared.command.Command.{Command}
-use Rattle.command_line.specs.declared.command.Command.TheVariants.{Build, Run, Emu}
+use Rattle.command_line.specs.declared.command.Command.TheVariants.{Build, Run, Emu, Table}
 
 -- ---- the command
 
@@ -43,11 +43,14 @@ run_shape = subcommand (codes "run") (workers_option ∷ chunk_option ∷ steps_
 abbrev pub emu_shape : Shape
 emu_shape = subcommand (codes "emu") (steps_option ∷ [])
 
+abbrev pub table_shape : Shape
+table_shape = subcommand (codes "table") []
+
 -- `pareas`: one of its subcommands is required
 abbrev pub app : App
 app = record {
   top = record (new_shape (codes "pareas")) { subcommand_required = true; has_version = true; is_leaf = false };
-  subs = build_shape ∷ run_shape ∷ emu_shape ∷ [];
+  subs = build_shape ∷ run_shape ∷ emu_shape ∷ table_shape ∷ [];
 }
 
 -- ---- what words ask for
@@ -66,12 +69,13 @@ abbrev pub shared_out : Command → List Row → Asked
 shared_out command rows =
     record { command = command; workers = number_at (codes "workers") rows; chunk = number_at (codes "chunk") rows }
 
--- what a subcommand asks for with its options; `emu` has no options for sharing
+-- what a subcommand asks for with its options; `emu` and `table` have no options for sharing
 abbrev pub asked_by : Text → List Row → Asked
 asked_by name rows =
     if bytes_eq name (codes "build") then shared_out Build rows
     else if bytes_eq name (codes "run") then shared_out (Run (number_at (codes "steps") rows)) rows
-    else record { command = Emu (number_at (codes "steps") rows); workers = 1; chunk = 1 }
+    else if bytes_eq name (codes "emu") then record { command = Emu (number_at (codes "steps") rows); workers = 1; chunk = 1 }
+    else record { command = Table; workers = 1; chunk = 1 }
 
 -- what words ask for, of which the first is the program's name; none exactly where clap finds a fault in them
 abbrev pub asked : List Text → Option Asked

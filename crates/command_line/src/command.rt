@@ -15,4 +15,6 @@ pub enum Command {
         /// The most steps.
         steps: u32,
     },
+    /// Reads the grammar file on the input, and tells how large its parse tables are.
+    Table,
 }

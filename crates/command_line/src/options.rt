@@ -2,7 +2,7 @@
 
 ghost use Rattle.std.specs.Prelude.{◌≡◌, IfOk, false};
 ghost use Rattle.clap.specs.Words.{app_of, rule_of, shape_of};
-ghost use Rattle.command_line.specs.Words.{app, build_shape, run_shape, emu_shape, workers_option, chunk_option, steps_option, number_option};
+ghost use Rattle.command_line.specs.Words.{app, build_shape, run_shape, emu_shape, table_shape, workers_option, chunk_option, steps_option, number_option};
 
 use clap::builder::ValueParser;
 use clap::{Arg, ArgAction, Command, value_parser};
@@ -89,6 +89,14 @@ fn emu<'a>(alloc: Global) -> Result<Command<'a>, AllocError>
         .arg(steps(alloc))
 }
 
+fn table<'a>(alloc: Global) -> Command<'a>
+    ensures { shape_of result ≡ table_shape }
+{
+    Command::new(alloc, "table").about(
+        "Makes the LLP(1,1) tables of a grammar from standard input: prints their sizes, or a conflict",
+    )
+}
+
 /// The command line as `clap` reads it.
 pub(crate) fn command<'a>(alloc: Global) -> Result<Command<'a>, AllocError>
     ensures { IfOk result (λ c. app_of c ≡ app) }
@@ -101,5 +109,6 @@ pub(crate) fn command<'a>(alloc: Global) -> Result<Command<'a>, AllocError>
         .subcommand_required(true)
         .subcommand(build(alloc)?)?
         .subcommand(run(alloc)?)?
-        .subcommand(emu(alloc)?)
+        .subcommand(emu(alloc)?)?
+        .subcommand(table(alloc))
 }

@@ -51,6 +51,17 @@ fn plan(options: &ArgMatches<'_>) -> Plan
     Plan::new(number(options, "workers"), number(options, "chunk")).unwrap()
 }
 
+// One worker, for a command that has no options for sharing work.
+fn alone() -> Plan
+    ensures workers { result.workers ≡ 1 }
+    ensures chunk { result.chunk ≡ 1 }
+{
+    Plan {
+        workers: 1,
+        chunk: 1,
+    }
+}
+
 // What a subcommand asks for.
 fn request(name: &str, options: &ArgMatches<'_>) -> Request
     requires { HasNumbers (rows_of (found_of options.now)) name.now }
@@ -67,14 +78,15 @@ fn request(name: &str, options: &ArgMatches<'_>) -> Request
             },
             plan: plan(options),
         },
-        _ => Request {
+        "emu" => Request {
             command: Command::Emu {
                 steps: number(options, "steps"),
             },
-            plan: Plan {
-                workers: 1,
-                chunk: 1,
-            },
+            plan: alone(),
+        },
+        _ => Request {
+            command: Command::Table,
+            plan: alone(),
         },
     }
 }

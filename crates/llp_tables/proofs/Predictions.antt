@@ -43,7 +43,7 @@ module _ (g : Grammar) where
   left_within [] v h = tt
   left_within (s ∷ u) v h = (h.0, left_within u v h.1)
 
-  right_within : (u v : List Symbol) → AllByRecursion (IsSymbol g) (u ++ v) → AllByRecursion (IsSymbol g) v
+  pub right_within : (u v : List Symbol) → AllByRecursion (IsSymbol g) (u ++ v) → AllByRecursion (IsSymbol g) v
   right_within [] v h = h
   right_within (s ∷ u) v h = right_within u v h.1
 

@@ -22,7 +22,7 @@ pub(crate) struct Conflict {
 }
 
 /// Whether the production behind the first i ones is one of the nonterminal a, and predicts b.
-fn predicts(
+pub(crate) fn predicts(
     grammar: &Grammar,
     nullable: &[bool],
     first: &[bool],

@@ -6,6 +6,7 @@ ghost use Rattle.grammar_file.specs.Marks.{AreMarksOf};
 ghost use Rattle.llp_tables.specs.Marking.{vanishes, all_vanish, starts, begins, comes_behind, IsNextBy, IsClosedBy, IsNextFollowIn, IsFollowClosedIn, IsNextFollow, IsFollowClosed};
 ghost use Rattle.llp_tables.specs.Predict.{IsNullable, IsFirst, IsFollow};
 ghost use Rattle.grammar_file.specs.Grammar.{end_mark, IsWellFormed};
+ghost use Rattle.grammar_file.specs.Spelling.{IsReduced};
 
 use grammar_file::{Grammar, Production, Symbol};
 use std::alloc::{AllocError, Global};
@@ -38,7 +39,7 @@ pub(crate) fn all_vanish(nullable: &[bool], form: &[Symbol]) -> bool
 }
 
 /// Whether what the symbol derives may begin with the terminal b, by the marks on the nonterminals that do.
-fn starts(first: &[bool], b: u16, symbol: Symbol) -> bool
+pub(crate) fn starts(first: &[bool], b: u16, symbol: Symbol) -> bool
     ensures { result ≡ starts first.now b symbol }
 {
     match symbol {
@@ -99,6 +100,7 @@ pub(crate) fn no_marks(alloc: Global, count: usize) -> Result<Vec<bool>, AllocEr
 /// Marks the nonterminals that derive the empty word.
 pub(crate) fn nullable(alloc: Global, grammar: &Grammar) -> Result<Vec<bool>, AllocError>
     ensures well_formed { IfOk result (λ v. IsWellFormed grammar.now) }
+    ensures reduced { IfOk result (λ v. IsReduced grammar.now) }
     ensures marks { IfOk result (λ v. AreMarksOf grammar.now (λ a. IsNullable grammar.now (AnyNonterminal a ∷ [])) v.items) }
 {
     let mut marks = no_marks(alloc, grammar.nonterminals().len())?;

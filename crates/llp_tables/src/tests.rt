@@ -1,7 +1,10 @@
 // Why grammars aren't LL(1).
 
+use crate::cells::Cell;
 use crate::fault::TableFault;
 use crate::generator::ll1_fault;
+use crate::lookbacks::{least_lookback_conflict, lookbacks};
+use crate::sets::nullable;
 use grammar_file::{G1, Grammar, GrammarFault};
 use std::alloc::Global;
 use std::test::Fail;
@@ -58,6 +61,76 @@ fn source_grammar(rt: HostRuntime) -> Result<(), Fail> {
     match numbers_of(rt.alloc(), G1) {
         Ok(found) => assert_eq!(rt; found, [0; 4]),
         Err(_) => assert!(rt; false, "the grammar of the source language is refused"),
+    }
+    Ok(())
+}
+
+/// The pair of a least conflict of PSLS, and the lengths of its two members.
+fn conflict_of(alloc: Global, text: &[u8]) -> Result<[usize; 4], GrammarFault> {
+    let grammar = Grammar::read(alloc, text)?;
+    let nullable = nullable(alloc, &grammar)?;
+    let lookbacks = lookbacks(alloc, &grammar, nullable.as_slice())?;
+    match least_lookback_conflict(alloc, &grammar, lookbacks.as_slice())? {
+        None => Ok([0; 4]),
+        Some(conflict) => Ok([
+            conflict.a as usize,
+            conflict.b as usize,
+            conflict.first.len(),
+            conflict.second.len(),
+        ]),
+    }
+}
+
+#[test]
+fn least_lookback_conflicts(rt: HostRuntime) -> Result<(), Fail> {
+    let rows: [(&[u8], [usize; 4]); 5] = [
+        (
+            b"S -> p E q\nS -> c E T q\nE -> i\nT -> d E T\nT ->",
+            [4, 2, 1, 2],
+        ),
+        (b"S -> A b\nA -> a A N\nA -> c\nN ->", [3, 1, 1, 2]),
+        (b"S -> x a\nS -> y a N\nN -> z\nN ->", [2, 5, 1, 2]),
+        (b"S -> a", [0; 4]),
+        (b"S ->", [0; 4]),
+    ];
+    for (text, numbers) in rows {
+        match conflict_of(rt.alloc(), text) {
+            Ok(found) => assert_eq!(rt; found, numbers),
+            Err(_) => assert!(rt; false, "a grammar is refused"),
+        }
+    }
+    Ok(())
+}
+
+/// How many cells have one string.
+fn count_of(cells: &[Cell]) -> usize {
+    cells
+        .iter()
+        .filter(|cell| matches!(cell, Cell::Least(_)))
+        .count()
+}
+
+/// How many cells of terminals and of nonterminals have one string.
+fn sizes_of(alloc: Global, text: &[u8]) -> Result<[usize; 2], GrammarFault> {
+    let grammar = Grammar::read(alloc, text)?;
+    let nullable = nullable(alloc, &grammar)?;
+    let lookbacks = lookbacks(alloc, &grammar, nullable.as_slice())?;
+    let mut sizes = [0usize; 2];
+    for members in &lookbacks {
+        sizes[0] = sizes[0].saturating_add(count_of(&members.terminals));
+        sizes[1] = sizes[1].saturating_add(count_of(&members.nonterminals));
+    }
+    Ok(sizes)
+}
+
+#[test]
+fn source_lookbacks(rt: HostRuntime) -> Result<(), Fail> {
+    match (conflict_of(rt.alloc(), G1), sizes_of(rt.alloc(), G1)) {
+        (Ok(numbers), Ok(sizes)) => {
+            assert_eq!(rt; numbers, [0; 4]);
+            assert_eq!(rt; sizes, [237, 172]);
+        }
+        _ => assert!(rt; false, "the grammar of the source language is refused"),
     }
     Ok(())
 }

@@ -7,12 +7,22 @@ use Rattle.verdict.specs.Verdict.{Verdict, Diagnosed, Limited, Accepted, IsVerdi
 use Rattle.pareas_core.specs.declared.status.Status.{Status}
 use Rattle.pareas_core.specs.declared.status.Status.TheVariants as statuses
 use Rattle.command_line.specs.declared.command.Command.{Command}
-use Rattle.command_line.specs.declared.command.Command.TheVariants.{Build, Run, Emu}
+use Rattle.command_line.specs.declared.command.Command.TheVariants.{Build, Run, Emu, Table}
 use Rattle.elf_file.specs.declared.fault.ElfFault.{ElfFault}
 use Rattle.rv32_emul.specs.Machine.{Outcome, Exits, Faults, More, machine}
 use Rattle.simulation.specs.Behaves.{Behaves, IsFaulty, Overruns}
+use Rattle.grammar_file.specs.Grammar.{Grammar, IsWellFormed}
+use Rattle.grammar_file.specs.Spelling.{Spells, IsReduced}
+use Rattle.grammar_file.specs.declared.file.GrammarFault.{GrammarFault}
+use Rattle.grammar_file.specs.FaultLines.{line_of_fault as line_of_grammar_fault}
+use Rattle.llp_tables.specs.Predict.{IsLl1}
+use Rattle.llp_tables.specs.Lookback.{IsLlp}
+use Rattle.llp_tables.specs.Tables.{IsTableFault}
+use Rattle.llp_tables.specs.Pairs.{CountsPairs}
+use Rattle.llp_tables.specs.FaultLines.{line_of_fault}
+use Rattle.llp_tables.specs.declared.fault.TableFault.{TableFault}
 use Rattle.pareas_core.specs.OneFunction.{IsOneFunction}
-use Rattle.pareas_core.specs.Output.{Due, noted, done, due_of_verdict, due_of_machine, ReadsSource, IsDue, not_yet, built, ran, emulated}
+use Rattle.pareas_core.specs.Output.{Due, noted, done, due_of_verdict, due_of_machine, ReadsSource, IsDueOfGrammar, conflicting, sized, sizes, IsDue, not_yet, built, ran, emulated, bad_grammar, tabled}
 use Rattle.pareas_core.specs.Reading.{ReadsUpTo, WritesPrefix}
 use Rattle.pareas_core.specs.Headline.{CompilesTo, RunsAs, HasRun, most_bytes, read_by, End, HasFailed, HasWorked, GotPrefix, IsWritten, IsAnswer, MeetsWords, IsResponse, IsDelivered, whole, broken_off}
 
@@ -26,6 +36,8 @@ other_due _ bytes _ reads (not_yet r n) other = refl
 other_due _ bytes _ reads (built f is) other = absurd (other f)
 other_due _ bytes _ reads (ran f is) other = absurd (other f)
 other_due _ bytes _ reads emulated other = absurd reads
+other_due _ bytes _ reads (bad_grammar f is) other = absurd reads
+other_due _ bytes _ reads (tabled g is due) other = absurd reads
 
 built_due : (bytes : List ℕ) (e : Due) (p : Program) → IsDue Build bytes e → IsOneFunction bytes → ((v : Verdict) → IsVerdict bytes v → v ≡ Accepted p) → e ≡ done (image p)
 built_due bytes _ p (not_yet r n) form one = absurd (n form)
@@ -80,6 +92,7 @@ abbrev steps_in : Command → ℕ
 steps_in Build = 0
 steps_in (Run steps) = steps
 steps_in (Emu steps) = steps
+steps_in Table = 0
 
 -- the run of an image
 pub run_through : (steps : ℕ) (bytes file : List ℕ) (d : Due) → IsOneFunction bytes → CompilesTo bytes file → OneVerdict bytes → d ≡ due_of_machine (machine file steps)
@@ -109,6 +122,61 @@ emulates steps bytes d is = record {
   ran = λ n run h. let e : Emu steps ≡ Run n = run in cc;
 }
 
+-- ---- a grammar file
+
+abbrev OneSpelling : List ℕ → Type 0
+OneSpelling bytes = (a b : Result Grammar GrammarFault) → Spells bytes a → Spells bytes b → a ≡ b
+
+-- what the laws of tables say of a grammar
+pub record OneAnswer (g : Grammar) : Type 0 where
+  pub fault : (f h : TableFault) → IsTableFault g f → IsTableFault g h → f ≡ h
+  pub no_tables : (f : TableFault) → IsTableFault g f → IsLl1 g → IsLlp g → ⊥
+  pub count : (m n : ℕ) → CountsPairs g m → CountsPairs g n → m ≡ n
+
+one_due : (g : Grammar) (d e : Due) → OneAnswer g → IsDueOfGrammar g d → IsDueOfGrammar g e → e ≡ d
+one_due g _ _ one (conflicting f is) (conflicting h other) = ap (λ f. noted statuses.Conflict (line_of_fault g f)) (one.fault h f other is)
+one_due g _ _ one (conflicting f is) (sized n ll1 llp count) = absurd (one.no_tables f is ll1 llp)
+one_due g _ _ one (sized m ll1 llp count) (conflicting f is) = absurd (one.no_tables f is ll1 llp)
+one_due g _ _ one (sized m ll1 llp count) (sized n also_ll1 also_llp other) = ap (λ n. done (sizes g n)) (one.count n m other count)
+
+grammar_of : Grammar → Result Grammar GrammarFault → Grammar
+grammar_of d (Ok g) = g
+grammar_of d (Err f) = d
+
+fault_of : GrammarFault → Result Grammar GrammarFault → GrammarFault
+fault_of d (Ok g) = d
+fault_of d (Err f) = f
+
+table_due : (bytes : List ℕ) (g : Grammar) (d e : Due) → Spells bytes (Ok g) → OneSpelling bytes → OneAnswer g → IsDueOfGrammar g d → IsDue Table bytes e → e ≡ d
+unfolding grammar_of
+table_due bytes g d _ is one answer due (not_yet r n) = absurd r
+table_due bytes g d _ is one answer due (bad_grammar f other) = let e : Ok g ≡ Err f = one (Ok g) (Err f) is other in cc
+table_due bytes g d e is one answer due (tabled h other also) =
+    let same : h ≡ g = ap (grammar_of g) (one (Ok h) (Ok g) other is) in
+    one_due g d e answer due (subst (λ k. IsDueOfGrammar k e) same also)
+
+bad_due : (bytes : List ℕ) (f : GrammarFault) (e : Due) → Spells bytes (Err f) → OneSpelling bytes → IsDue Table bytes e → e ≡ noted statuses.BadGrammar (line_of_grammar_fault f)
+unfolding fault_of
+bad_due bytes f _ is one (not_yet r n) = absurd r
+bad_due bytes f _ is one (bad_grammar h other) = ap (λ f. noted statuses.BadGrammar (line_of_grammar_fault f)) (ap (fault_of f) (one (Err h) (Err f) other is))
+bad_due bytes f e is one (tabled h other also) = let e : Err f ≡ Ok h = one (Err f) (Ok h) is other in cc
+
+-- a table's response is neither built nor run
+of_table : (bytes : List ℕ) (d : Due) → IsDue Table bytes d → ((e : Due) → IsDue Table bytes e → e ≡ d) → IsResponse Table bytes d
+of_table bytes d due only = record {
+  due = due;
+  only = only;
+  built = λ build is_done. let e : Table ≡ Build = build in cc;
+  ran = λ n run h. let e : Table ≡ Run n = run in cc;
+}
+
+pub tables_or_conflict : (bytes : List ℕ) (g : Grammar) (d : Due) → Spells bytes (Ok g) → OneSpelling bytes → OneAnswer g → IsDueOfGrammar g d → IsResponse Table bytes d
+tables_or_conflict bytes g d is one answer due = of_table bytes d (tabled g is due) (λ e. table_due bytes g d e is one answer due)
+
+pub no_grammar : (bytes : List ℕ) (f : GrammarFault) (d : Due) → Spells bytes (Err f) → OneSpelling bytes → d ≡ noted statuses.BadGrammar (line_of_grammar_fault f) → IsResponse Table bytes d
+no_grammar bytes f d is one same =
+    subst (IsResponse Table bytes) (sym same) (of_table bytes _ (bad_grammar f is) (λ e. bad_due bytes f e is one))
+
 -- ---- what the outputs got
 
 pub got : (before after : Option (List ℕ)) (bytes : List ℕ) → Appends before after bytes → (old : List ℕ) → before ≡ Some old → after ≡ Some (old ++ bytes)
@@ -135,6 +203,8 @@ IsOutcome statuses.Limit = Unit {0}
 IsOutcome statuses.Running = Unit {0}
 IsOutcome statuses.Machine = Unit {0}
 IsOutcome statuses.BadImage = Unit {0}
+IsOutcome statuses.Conflict = Unit {0}
+IsOutcome statuses.BadGrammar = Unit {0}
 IsOutcome s = ⊥
 
 machine_outcome : (m : Result Outcome ElfFault) → IsOutcome (due_of_machine m).status
@@ -150,12 +220,19 @@ verdict_outcome f bytes (Diagnosed code place) h = tt
 verdict_outcome f bytes (Limited code place n) h = tt
 verdict_outcome f bytes (Accepted p) h = h p
 
+grammar_outcome : (g : Grammar) (d : Due) → IsDueOfGrammar g d → IsOutcome d.status
+unfolding IsOutcome
+grammar_outcome g _ (conflicting f is) = tt
+grammar_outcome g _ (sized n ll1 llp count) = tt
+
 outcome : (c : Command) (bytes : List ℕ) (d : Due) → IsDue c bytes d → IsOutcome d.status
 unfolding IsOutcome
 outcome _ bytes _ (not_yet r n) = tt
 outcome _ bytes _ (built {v = v} f is) = verdict_outcome (λ p. done (image p)) bytes v (λ p. tt)
 outcome _ bytes _ (ran {steps = steps} {v = v} f is) = verdict_outcome (λ p. due_of_machine (machine (image p) steps)) bytes v (λ p. machine_outcome (machine (image p) steps))
 outcome _ bytes _ (emulated {steps = steps}) = machine_outcome (machine bytes steps)
+outcome _ bytes _ (bad_grammar f is) = tt
+outcome _ bytes d (tabled g is due) = grammar_outcome g d due
 
 no_outcome : (s : Status) → (s ≡ statuses.Usage) ⊎ (s ≡ statuses.ReadFault) ⊎ (s ≡ statuses.WriteFault) ⊎ (s ≡ statuses.NoMemory) → IsOutcome s → ⊥
 unfolding IsOutcome

@@ -7,7 +7,7 @@ use Rattle.pareas_core.specs.declared.status.Status.{Status}
 use Rattle.pareas_core.specs.declared.status.Status.TheVariants as statuses
 use Rattle.pareas_core.specs.Causes.{Rose, Stayed}
 use Rattle.command_line.specs.declared.command.Command.{Command}
-use Rattle.command_line.specs.declared.command.Command.TheVariants.{Build, Run, Emu}
+use Rattle.command_line.specs.declared.command.Command.TheVariants.{Build, Run, Emu, Table}
 use Rattle.elf_file.specs.Load.{most as most_image}
 use Rattle.pareas_core.specs.Output.{Due, IsDue}
 
@@ -30,11 +30,16 @@ pub record RunsAs (source : List ℕ) (steps : ℕ) (status : Status) : Type 0 w
   pub behaves : Behaves program (image program)
   pub overran : status ≡ statuses.Machine → Overruns program (image program) steps
 
+-- the most bytes of a grammar file
+abbrev pub most_grammar : ℕ
+most_grammar = 65536
+
 -- the most bytes that a command takes
 abbrev pub most_bytes : Command → ℕ
 most_bytes Build = most_source
 most_bytes (Run steps) = most_source
 most_bytes (Emu steps) = most_image
+most_bytes Table = most_grammar
 
 -- the bytes that a command reads: those of the input, up to one past its limit
 abbrev pub read_by : Command → List ℕ → List ℕ

@@ -2,7 +2,7 @@
 use Rattle.std.specs.Prelude.{ℕ, ◌+◌, ◌-◌, false, List, [], ◌∷◌, ◌++◌, length, take, replicate, codes, decimal, fold, count_by, ◌==◌, if◌then◌else◌, Result, Ok, Err}
 use Rattle.std.specs.Fmt.{signed_decimal, digits}
 use Rattle.command_line.specs.declared.command.Command.{Command}
-use Rattle.command_line.specs.declared.command.Command.TheVariants.{Build, Run, Emu}
+use Rattle.command_line.specs.declared.command.Command.TheVariants.{Build, Run, Emu, Table}
 use Rattle.rv_isa.specs.Word.{signed}
 use Rattle.rv_isa.specs.declared.hart.FaultKind.{FaultKind}
 use Rattle.rv_isa.specs.declared.hart.FaultKind.TheVariants.{Fetch, Load, Store, Misaligned, Unknown, Call}
@@ -10,8 +10,18 @@ use Rattle.elf_file.specs.declared.fault.ElfFault.{ElfFault}
 use Rattle.elf_file.specs.Text.{name_of}
 use Rattle.rv32_emul.specs.Machine.{Outcome, Exits, Faults, More, machine}
 use Rattle.pareas_core.specs.declared.status.Status.{Status}
-use Rattle.pareas_core.specs.declared.status.Status.TheVariants.{Done, Refused, Limit, Running, Machine, BadImage}
+use Rattle.pareas_core.specs.declared.status.Status.TheVariants.{Done, Refused, Limit, Running, Machine, Conflict, BadImage, BadGrammar}
 use Rattle.pareas_core.specs.OneFunction.{IsOneFunction}
+use Rattle.grammar_file.specs.Grammar.{Grammar}
+use Rattle.grammar_file.specs.Spelling.{Spells}
+use Rattle.grammar_file.specs.declared.file.GrammarFault.{GrammarFault}
+use Rattle.grammar_file.specs.FaultLines.{line_of_fault as line_of_grammar_fault}
+use Rattle.llp_tables.specs.Predict.{IsLl1}
+use Rattle.llp_tables.specs.Lookback.{IsLlp}
+use Rattle.llp_tables.specs.Tables.{IsTableFault}
+use Rattle.llp_tables.specs.Pairs.{CountsPairs}
+use Rattle.llp_tables.specs.FaultLines.{line_of_fault}
+use Rattle.llp_tables.specs.declared.fault.TableFault.{TableFault}
 use Rattle.source_meaning.specs.Ast.{Program}
 use Rattle.verdict.specs.Verdict.{Verdict, Diagnosed, Limited, Accepted, IsVerdict, image}
 
@@ -86,6 +96,23 @@ abbrev pub due_of_machine : Result Outcome ElfFault → Due
 due_of_machine (Ok outcome) = record { status = status_of outcome; out = machine_line outcome; notes = [] }
 due_of_machine (Err fault) = noted BadImage (codes "image " ++ name_of fault)
 
+-- ---- the tables of a grammar
+
+-- a name and a number
+abbrev pub counted : List ℕ → ℕ → List ℕ
+counted name number = line (name ++ codes " " ++ decimal number)
+
+-- the sizes of a grammar and of its tables
+abbrev pub sizes : Grammar → ℕ → List ℕ
+sizes g entries =
+    counted (codes "terminals") (length g.terminals) ++ counted (codes "nonterminals") (length g.nonterminals)
+    ++ counted (codes "productions") (length g.productions) ++ counted (codes "entries") entries
+
+-- what is due for a grammar: the least conflict, or the sizes
+pub data IsDueOfGrammar (g : Grammar) : Due → Type 0 where
+  conflicting : (fault : TableFault) → IsTableFault g fault → IsDueOfGrammar g (noted Conflict (line_of_fault g fault))
+  sized : (entries : ℕ) → IsLl1 g → IsLlp g → CountsPairs g entries → IsDueOfGrammar g (done (sizes g entries))
+
 -- ---- what is due
 
 -- the command reads a source
@@ -93,6 +120,7 @@ abbrev pub ReadsSource : Command → Type 0
 ReadsSource Build = Unit {0}
 ReadsSource (Run steps) = Unit {0}
 ReadsSource (Emu steps) = ⊥
+ReadsSource Table = ⊥
 
 -- What is due for a command and the bytes that it read. Workers, chunks and gate have no part in it.
 -- Sources of another form than the first are not compiled yet.
@@ -102,3 +130,6 @@ pub data IsDue : Command → List ℕ → Due → Type 0 where
   ran : {steps : ℕ} {bytes : List ℕ} {v : Verdict} → IsOneFunction bytes → IsVerdict bytes v →
       IsDue (Run steps) bytes (due_of_verdict (λ p. due_of_machine (machine (image p) steps)) bytes v)
   emulated : {steps : ℕ} {bytes : List ℕ} → IsDue (Emu steps) bytes (due_of_machine (machine bytes steps))
+  -- a file that spells no grammar
+  bad_grammar : {bytes : List ℕ} (fault : GrammarFault) → Spells bytes (Err fault) → IsDue Table bytes (noted BadGrammar (line_of_grammar_fault fault))
+  tabled : {bytes : List ℕ} {d : Due} (g : Grammar) → Spells bytes (Ok g) → IsDueOfGrammar g d → IsDue Table bytes d

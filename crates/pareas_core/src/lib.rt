@@ -12,6 +12,7 @@ mod reading;
 mod refusal;
 mod response;
 mod status;
+mod table;
 mod writing;
 
 pub use compiler::compile;

@@ -18,6 +18,9 @@ use std::thread::Threads;
 /// The most bytes of an image.
 const MOST_IMAGE: usize = 67_108_864;
 
+/// The most bytes of a grammar file.
+const MOST_GRAMMAR: usize = 65_536;
+
 // The most bytes that a command takes.
 fn limit_of(command: Command) -> usize
     ensures { result ≡ most_bytes command }
@@ -25,6 +28,7 @@ fn limit_of(command: Command) -> usize
     match command {
         Command::Build | Command::Run { .. } => MOST_SOURCE,
         Command::Emu { .. } => MOST_IMAGE,
+        Command::Table => MOST_GRAMMAR,
     }
 }
 

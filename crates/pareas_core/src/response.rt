@@ -11,6 +11,7 @@ use crate::ends::ByteOut;
 use crate::machine::emulate;
 use crate::refusal::Refusal;
 use crate::status::Status;
+use crate::table::table;
 use crate::writing::write_all;
 use chunk_seats::{Gate, Plan};
 use command_line::Command;
@@ -102,6 +103,7 @@ pub(crate) fn respond<R: Threads + Sync, G: Gate>(
         Command::Build => build(rt, alloc, plan, gate, bytes),
         Command::Run { steps } => run(rt, alloc, plan, gate, bytes, steps),
         Command::Emu { steps } => emulate(alloc, bytes, steps),
+        Command::Table => table(alloc, bytes),
     }
 }
 

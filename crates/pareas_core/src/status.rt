@@ -21,6 +21,10 @@ pub enum Status {
     Running = 7,
     /// The machine has faulted.
     Machine = 8,
+    /// The grammar isn't LL(1) and LLP(1,1).
+    Conflict = 9,
     /// The file isn't an image that can be loaded.
     BadImage = 10,
+    /// The file isn't a grammar of the form that is read.
+    BadGrammar = 11,
 }

@@ -16,8 +16,10 @@ returns c =
     let build_plain = ap (λ (s : Shape). s.is_plain) c.in_ok-build.ensures in
     let run_plain = ap (λ (s : Shape). s.is_plain) c.in_ok-run.ensures in
     let emu_plain = ap (λ (s : Shape). s.is_plain) c.in_ok-emu.ensures in
+    let table_plain = ap (λ (s : Shape). s.is_plain) c.table.ensures in
     let one = c.in_ok-subcommand.ensures.shape (is_not _ (and_parts _ _ (and_parts _ _ (and_parts _ _ build_plain).1).1).0) ∙ ap₂ with_subcommand bare_is c.in_ok-build.ensures in
     let two = c.in_ok-subcommand-2.ensures.shape (is_not _ (and_parts _ _ (and_parts _ _ (and_parts _ _ run_plain).1).1).0) ∙ ap₂ with_subcommand one c.in_ok-run.ensures in
-    IfOk-weaker c.subcommand-3.result _ _
-    (λ m h. h.shape (is_not _ (and_parts _ _ (and_parts _ _ (and_parts _ _ emu_plain).1).1).0) ∙ ap₂ with_subcommand two c.in_ok-emu.ensures)
-    c.subcommand-3.ensures
+    let three = c.in_ok-subcommand-3.ensures.shape (is_not _ (and_parts _ _ (and_parts _ _ (and_parts _ _ emu_plain).1).1).0) ∙ ap₂ with_subcommand two c.in_ok-emu.ensures in
+    IfOk-weaker c.subcommand-4.result _ _
+    (λ m h. h.shape (is_not _ (and_parts _ _ (and_parts _ _ (and_parts _ _ table_plain).1).1).0) ∙ ap₂ with_subcommand three c.table.ensures)
+    c.subcommand-4.ensures
