@@ -3,7 +3,7 @@ use Rattle.std.proofs.Common.{◌≡◌, ◌≢◌, ℕ, zero, suc, ◌+◌, ◌
 use Rattle.std.proofs.lemmas.Bool.{true≢false}
 use Rattle.grammar_file.specs.declared.symbols.Symbol.{Symbol}
 use Rattle.grammar_file.specs.declared.symbols.Symbol.TheVariants.{Terminal, Nonterminal}
-use Rattle.llp_tables.specs.Slots.{Slots, Empty, room}
+use Rattle.llp_tables.specs.Slots.{Empty, room}
 use Rattle.llp_tables.specs.declared.cells.Cell.TheVariants.{Nothing}
 use Rattle.llp_tables.specs.declared.cells.Members.{Members}
 use Rattle.llp_tables.specs.declared.cells.Cell.{Cell}

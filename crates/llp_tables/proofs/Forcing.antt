@@ -1,5 +1,5 @@
 -- What the places force is closed behind their symbols, and all that is closed there is forced.
-use Rattle.std.proofs.Common.{◌≡◌, ◌≢◌, ℕ, zero, suc, ◌+◌, ◌<◌, ◌⊎◌, inl, inr, ⊎_elim, List, [], ◌∷◌, ◌++◌, length, get_or, take, drop, Bool, true, false, ◌&&◌, ◌||◌, eqb-true, eq-eqb, Some, slice_get, refl, sym, ap, ◌∙◌, subst, append_assoc, arith}
+use Rattle.std.proofs.Common.{◌≡◌, ℕ, zero, suc, ◌+◌, ◌<◌, inl, inr, ⊎_elim, List, [], ◌∷◌, ◌++◌, length, take, drop, Bool, true, false, ◌&&◌, eqb-true, eq-eqb, Some, slice_get, refl, sym, ap, ◌∙◌, subst, append_assoc, arith}
 use Rattle.std.proofs.Math.Seq.{take-append_seam}
 use Rattle.std.proofs.lemmas.Bool.{true≢false}
 use Rattle.std.proofs.lemmas.List.{take-append-drop, take_more}
@@ -8,11 +8,11 @@ use Rattle.grammar_file.specs.declared.symbols.Symbol.{Symbol}
 use Rattle.grammar_file.specs.declared.symbols.Symbol.TheVariants.{Terminal, Nonterminal}
 use Rattle.grammar_file.specs.Grammar.{Grammar, Production, production, begin_mark, end_mark, whole}
 use Rattle.grammar_file.specs.Marks.{AreMarksOf}
-use Rattle.llp_tables.specs.Predict.{IsNullable, IsFirst}
-use Rattle.llp_tables.specs.Marking.{vanishes, all_vanish, starts, begins}
+use Rattle.llp_tables.specs.Predict.{IsFirst}
+use Rattle.llp_tables.specs.Marking.{vanishes, all_vanish, starts}
 use Rattle.llp_tables.specs.Lookback.{BeginsAtLast}
 use Rattle.llp_tables.specs.Behind.{Behind, here, through, of_start, of_begin}
-use Rattle.llp_tables.specs.Cells.{IsCovered, IsClosedAt, IsClosed}
+use Rattle.llp_tables.specs.Cells.{IsCovered, IsClosedAt}
 use Rattle.llp_tables.specs.Slots.{Slots, Empty, One, Holds, AreInOrder, covers}
 use Rattle.llp_tables.specs.Forced.{is_stop, IsStop, IsPass, IsForced, IsForcedBy, IsForcedByRules, IsForcedIn, IsPassedIn, Forces}
 use Rattle.llp_tables.proofs.FormTests.{both, and, either, or_left, Nullable, First, vanishing, beginning, vanishes_exactly, begins_exactly}

@@ -1,17 +1,13 @@
 -- What the cells of all terminals tell of PSLS.
-use Rattle.std.proofs.Common.{◌≡◌, ℕ, ◌+◌, ◌<◌, ◌≤◌, ◌⊎◌, inl, inr, List, [], ◌∷◌, ◌++◌, length, refl, sym, ap, ◌∙◌, subst, arith}
-use Rattle.std.specs.List.{AllByRecursion}
+use Rattle.std.proofs.Common.{◌≡◌, ℕ, ◌+◌, ◌<◌, ◌≤◌, ◌⊎◌, inl, inr, List, length, refl, sym, ap, ◌∙◌, subst, arith}
 use Rattle.std.proofs.lemmas.Bool.{cases_lt}
 use Rattle.std.proofs.lemmas.Option.{slice_get_past}
 use Rattle.grammar_file.specs.declared.symbols.Symbol.{Symbol}
-use Rattle.grammar_file.specs.declared.symbols.Symbol.TheVariants.{Terminal, Nonterminal}
-use Rattle.grammar_file.specs.Grammar.{Grammar, Production, begin_mark, end_mark, IsSymbol, IsWellFormed}
+use Rattle.grammar_file.specs.declared.symbols.Symbol.TheVariants.{Terminal}
+use Rattle.grammar_file.specs.Grammar.{Grammar, IsWellFormed}
 use Rattle.grammar_file.specs.Spelling.{IsReduced}
-use Rattle.grammar_file.specs.Drive.{Reads}
-use Rattle.grammar_file.proofs.Drives.{reads_first}
-use Rattle.llp_tables.specs.Predict.{IsFirst}
 use Rattle.llp_tables.specs.Lookback.{IsLookback, IsLlp}
-use Rattle.llp_tables.specs.Behind.{Behind, here, through, of_start, of_begin}
+use Rattle.llp_tables.specs.Behind.{Behind}
 use Rattle.llp_tables.specs.Slots.{Slots, Empty, One, Two}
 use Rattle.llp_tables.specs.LeastMembers.{KeepsLeast}
 use Rattle.llp_tables.specs.Lookbacks.{cells_in, cells_at, AreLookbacks, HasNoTwo, TellsLookback, TellLookbacks, IsLeastTwoBehind}

@@ -1,5 +1,5 @@
 -- What is added, place after place.
-use Rattle.std.proofs.Common.{◌≡◌, ◌≢◌, ℕ, zero, suc, ◌+◌, ◌<◌, ◌≤◌, ◌⊎◌, inl, inr, ⊎_elim, List, [], ◌++◌, length, take, drop, get_or, Bool, true, false, Some, slice_get, refl, sym, ap, ◌∙◌, subst, arith}
+use Rattle.std.proofs.Common.{◌≡◌, ◌≢◌, ℕ, zero, suc, ◌+◌, ◌<◌, ◌≤◌, ◌⊎◌, inl, inr, ⊎_elim, List, ◌++◌, length, take, drop, get_or, Bool, true, false, Some, slice_get, refl, sym, ap, ◌∙◌, subst, arith}
 use Rattle.std.proofs.lemmas.Bool.{true≢false}
 use Rattle.std.proofs.lemmas.Option.{same_Some, slice_get_within, slice_get-get_or, get_or_from_slice_get}
 use Rattle.grammar_file.specs.declared.symbols.Symbol.{Symbol}
@@ -7,7 +7,7 @@ use Rattle.grammar_file.specs.declared.symbols.Symbol.TheVariants.{Terminal, Non
 use Rattle.grammar_file.specs.Grammar.{Grammar, Production, whole}
 use Rattle.grammar_file.proofs.Words.{same_nonterminal}
 use Rattle.llp_tables.specs.Marking.{all_vanish}
-use Rattle.llp_tables.specs.Slots.{Empty, One, Holds}
+use Rattle.llp_tables.specs.Slots.{Empty, One}
 use Rattle.llp_tables.specs.Forced.{is_stop, IsStop, IsPass, IsForced, IsForcedBy, IsForcedByRules, IsForcedIn, Forces, Passes, no_strings}
 use Rattle.llp_tables.specs.Waiting.{Adds}
 use Rattle.llp_tables.specs.declared.pending.Pending.{Pending}

@@ -1,22 +1,20 @@
 -- Cells that fill up from the least string on.
-use Rattle.std.proofs.Common.{◌≡◌, ◌≢◌, ℕ, zero, suc, ◌+◌, ◌<◌, ◌⊎◌, inl, inr, ⊎_elim, List, [], ◌∷◌, ◌++◌, length, drop, Bool, true, false, Option, Some, None, slice_get, refl, sym, ap, ◌∙◌, subst, append-nil, arith}
+use Rattle.std.proofs.Common.{◌≡◌, ◌≢◌, ℕ, suc, ◌+◌, ◌<◌, ◌⊎◌, inl, inr, ⊎_elim, List, [], ◌++◌, length, drop, Bool, true, refl, sym, ap, ◌∙◌, subst, append-nil, arith}
 use Rattle.std.proofs.lemmas.Bool.{true≢false}
-use Rattle.std.proofs.lemmas.Option.{none-some, same_Some}
 use Rattle.grammar_file.specs.declared.symbols.Symbol.{Symbol}
 use Rattle.grammar_file.specs.declared.symbols.Symbol.TheVariants.{Terminal, Nonterminal}
-use Rattle.grammar_file.specs.Grammar.{Grammar, begin_mark, end_mark, whole, IsSymbol, IsWellFormed}
+use Rattle.grammar_file.specs.Grammar.{Grammar, IsWellFormed}
 use Rattle.grammar_file.specs.Marks.{AreMarksOf}
 use Rattle.llp_tables.specs.Behind.{Behind}
 use Rattle.llp_tables.specs.Cells.{IsBefore, IsClosedAt}
 use Rattle.llp_tables.specs.Slots.{Slots, Empty, One, Holds, AreInOrder, covers, add, room}
 use Rattle.llp_tables.specs.CellSlots.{cell_of, HasCell, room_of}
-use Rattle.llp_tables.specs.Forced.{IsPass, IsForced, IsForcedBy, IsForcedByRules, IsForcedIn, IsPassedIn, no_strings}
+use Rattle.llp_tables.specs.Forced.{IsPass, IsForced, IsForcedIn, IsPassedIn, no_strings}
 use Rattle.llp_tables.specs.Waiting.{IsWaiting, Adds, AreCovered, IsLeastWaiting}
 use Rattle.llp_tables.specs.LeastMembers.{AreLeastMembers}
 use Rattle.llp_tables.specs.declared.cells.Members.{Members}
 use Rattle.llp_tables.specs.declared.pending.Pending.{Pending}
 use Rattle.llp_tables.proofs.FormTests.{Nullable, First}
-use Rattle.llp_tables.proofs.FollowMarks.{all_at}
 use Rattle.llp_tables.proofs.CellLists.{symbol_cases}
 use Rattle.llp_tables.proofs.StackOrder.{before_not_itself, not_before_front}
 use Rattle.llp_tables.proofs.TwoLeast.{behind_covered}

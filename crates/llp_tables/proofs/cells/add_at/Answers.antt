@@ -1,6 +1,6 @@
-use Rattle.std.proofs.Common.{◌≡◌, ◌<◌, length, ap, ◌∙◌, set, length-set, arith}
+use Rattle.std.proofs.Common.{◌<◌, length, ap, ◌∙◌, set, length-set, arith}
 use Rattle.llp_tables.specs.Slots.{add as add_slots}
-use Rattle.llp_tables.specs.CellSlots.{slots_of, cell_at}
+use Rattle.llp_tables.specs.CellSlots.{slots_of}
 use Rattle.llp_tables.proofs.CellLists.{cell_at-set_same, cell_at-set_other, cell_at-get, room_twice}
 use Rattle.llp_tables.proofs.cells.add_at.Goals as goal
 

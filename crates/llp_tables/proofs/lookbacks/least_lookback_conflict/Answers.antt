@@ -1,5 +1,4 @@
-use Rattle.std.proofs.Common.{Some, ap, sym, ◌∙◌, ◌≡◌, ◌+◌, ◌≤◌, length, subst, arith}
-use Rattle.std.specs.Prelude.{MatchOption}
+use Rattle.std.proofs.Common.{ap, sym, length, subst, arith}
 use Rattle.llp_tables.specs.Tables.{IsLeastLookbackConflict}
 use Rattle.llp_tables.proofs.LookbackConflicts.{no_conflict, least_conflict}
 use Rattle.llp_tables.proofs.lookbacks.least_lookback_conflict.Goals as goal

@@ -1,5 +1,4 @@
 use Rattle.std.proofs.Common.{◌≡◌, ◌+◌, ap, length, subst, ◌∙◌}
-use Rattle.grammar_file.specs.declared.symbols.Symbol.{Symbol}
 use Rattle.llp_tables.specs.CellSlots.{cell_of}
 use Rattle.llp_tables.specs.Forced.{IsPassedIn}
 use Rattle.llp_tables.specs.Slots.{add}
