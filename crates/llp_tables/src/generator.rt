@@ -9,7 +9,7 @@ ghost use Rattle.llp_tables.specs.declared.fault.TableFault.TheVariants.{Llp, No
 use crate::assembly::tables_by;
 use crate::conflicts::least_conflict;
 use crate::entry_table::Tables;
-use crate::fault::{Stack, TableFault};
+use crate::fault::TableFault;
 use crate::left_recursion::least_left_recursive;
 use crate::lookbacks::{LookbackConflict, least_lookback_conflict, lookbacks};
 use crate::sets::nullable;
@@ -37,13 +37,13 @@ fn ll1_fault(alloc: Global, grammar: &Grammar) -> Result<Option<TableFault>, All
 
 /// The fault of two stacks that may be closed between two terminals.
 fn lookback_fault(conflict: LookbackConflict) -> TableFault
-    ensures { result ≡ Llp conflict.a conflict.b conflict.first.items conflict.second.items }
+    ensures { result ≡ Llp conflict.a conflict.b conflict.first conflict.second }
 {
     TableFault::Llp {
         a: conflict.a,
         b: conflict.b,
-        first: Stack::new(conflict.first),
-        second: Stack::new(conflict.second),
+        first: conflict.first,
+        second: conflict.second,
     }
 }
 

@@ -14,6 +14,7 @@ ghost use Rattle.llp_tables.specs.Lookbacks.{AreLookbacks, HasNoTwo, IsLeastTwoB
 ghost use Rattle.llp_tables.specs.Tables.{IsLeastLookbackConflict};
 
 use crate::cells::{Cell, Members};
+use crate::fault::Stack;
 use crate::members::least_members;
 use crate::sets::first;
 use grammar_file::{Grammar, Symbol};
@@ -58,8 +59,8 @@ pub(crate) fn lookbacks(
 pub(crate) struct LookbackConflict {
     pub a: u16,
     pub b: u16,
-    pub first: Vec<Symbol>,
-    pub second: Vec<Symbol>,
+    pub first: Stack,
+    pub second: Stack,
 }
 
 /// The strings of a cell that has two.
@@ -102,15 +103,15 @@ fn conflict_behind(
     a: u16,
 ) -> Result<Option<LookbackConflict>, AllocError>
     requires { length lookbacks.now ≡ count }
-    ensures { IfOk result (λ o. MatchOption o ((b : ℕ) → b < count → HasNoTwo (cells_at lookbacks.now b (AnyTerminal a))) (λ k. (k.a ≡ a) × IsLeastTwoBehind lookbacks.now a k.b k.first.items k.second.items)) }
+    ensures { IfOk result (λ o. MatchOption o ((b : ℕ) → b < count → HasNoTwo (cells_at lookbacks.now b (AnyTerminal a))) (λ k. (k.a ≡ a) × IsLeastTwoBehind lookbacks.now a k.b k.first k.second)) }
 {
     for b in 0..count {
         if let Some((first, second)) = two_at(alloc, lookbacks, a, b)? {
             return Ok(Some(LookbackConflict {
                 a,
                 b,
-                first,
-                second,
+                first: Stack::new(first),
+                second: Stack::new(second),
             }));
         }
     }
@@ -127,7 +128,7 @@ pub(crate) fn least_lookback_conflict(
     requires well_formed { IsWellFormed grammar.now }
     requires reduced { IsReduced grammar.now }
     requires lookbacks { AreLookbacks grammar.now lookbacks.now }
-    ensures { IfOk result (λ o. MatchOption o (IsLlp grammar.now × TellLookbacks grammar.now lookbacks.now) (λ k. IsLeastLookbackConflict grammar.now k.a k.b k.first.items k.second.items)) }
+    ensures { IfOk result (λ o. MatchOption o (IsLlp grammar.now × TellLookbacks grammar.now lookbacks.now) (λ k. IsLeastLookbackConflict grammar.now k.a k.b k.first k.second)) }
 {
     let count = grammar.terminals().len() as u16 + 2;
     for a in 0..count {

@@ -75,8 +75,8 @@ fn conflict_of(alloc: Global, text: &[u8]) -> Result<[usize; 4], GrammarFault> {
         Some(conflict) => Ok([
             conflict.a as usize,
             conflict.b as usize,
-            conflict.first.len(),
-            conflict.second.len(),
+            conflict.first.symbols().len(),
+            conflict.second.symbols().len(),
         ]),
     }
 }

@@ -8,8 +8,8 @@ returns-in-Some c =
     let g = c.args.grammar.now in
     let k = c.in-Some.conflict in
     let found = rw c.in-Some.is at c.in_ok-conflict.ensures in
-    subst (λ a. IsLeastLookbackConflict g a k.b k.first.items k.second.items) (sym found.0)
-    (least_conflict g c.args.lookbacks.now c.requires.lookbacks c.requires.well_formed c.requires.reduced c.loop-a.a k.b k.first.items k.second.items c.loop-a.invariant found.1)
+    subst (λ a. IsLeastLookbackConflict g a k.b k.first k.second) (sym found.0)
+    (least_conflict g c.args.lookbacks.now c.requires.lookbacks c.requires.well_formed c.requires.reduced c.loop-a.a k.b k.first k.second c.loop-a.invariant found.1)
 
 pub returns : goal.returns
 returns c =
