@@ -142,6 +142,26 @@ fn source_entries(rt: HostRuntime) -> Result<(), Fail> {
     Ok(())
 }
 
+/// How many entries there are behind each terminal of the source language's grammar, from the begin mark to the end mark.
+const BEHIND: [u64; 31] = [
+    2, 1, 15, 9, 13, 2, 8, 1, 4, 4, 14, 16, 7, 14, 7, 1, 7, 7, 7, 7, 7, 7, 7, 7, 7, 12, 12, 12, 8,
+    12, 0,
+];
+
+#[test]
+fn entries_behind_each_terminal(rt: HostRuntime) -> Result<(), Fail> {
+    match source_tables(rt.alloc()) {
+        Ok(Some(tables)) => {
+            assert_eq!(rt; tables.width(), 31);
+            for a in 0..31 {
+                assert_eq!(rt; counts_behind(&tables, a)[0], BEHIND[a as usize]);
+            }
+        }
+        _ => assert!(rt; false, "the grammar of the source language has no tables"),
+    }
+    Ok(())
+}
+
 #[test]
 fn entry_counts(rt: HostRuntime) -> Result<(), Fail> {
     let three = doubling(rt.alloc(), 3)?;
