@@ -1,101 +1,68 @@
-// Why grammars aren't LL(1).
+// Why grammars have no tables.
 
 use crate::cells::Cell;
+use crate::entry_table::Tables;
 use crate::fault::TableFault;
-use crate::generator::ll1_fault;
-use crate::lookbacks::{least_lookback_conflict, lookbacks};
+use crate::lookbacks::lookbacks;
 use crate::sets::nullable;
 use grammar_file::{G1, Grammar, GrammarFault};
-use std::alloc::Global;
+use std::alloc::{AllocError, Global};
 use std::test::Fail;
 
-/// The numbers of the fault: nonterminal, terminal and productions, or the nonterminal alone.
-fn numbers_of(alloc: Global, text: &[u8]) -> Result<[u16; 4], GrammarFault> {
-    let grammar = Grammar::read(alloc, text)?;
-    match ll1_fault(alloc, &grammar)? {
-        None => Ok([0; 4]),
-        Some(TableFault::LeftRecursive { nonterminal }) => Ok([nonterminal + 1, 0, 0, 0]),
-        Some(
-            TableFault::Ll1 {
-                nonterminal,
-                b,
-                p1,
-                p2,
-            },
-        ) => Ok([nonterminal + 1, b, p1, p2]),
-        Some(TableFault::Llp { .. }) => Ok([9; 4]),
+/// The line of a grammar's fault, which is empty where there is none.
+fn line_of(alloc: Global, grammar: &Grammar) -> Result<Vec<u8>, AllocError> {
+    match Tables::build(alloc, grammar) {
+        Ok(_) => Ok(Vec::new(alloc)),
+        Err(TableFault::NoMemory) => Err(AllocError),
+        Err(fault) => fault.line(alloc, grammar),
     }
 }
 
 #[test]
 fn least_faults(rt: HostRuntime) -> Result<(), Fail> {
-    let rows: [(&[u8], [u16; 4]); 10] = [
-        (b"S -> a\nS -> a b", [1, 1, 1, 2]),
-        (b"S -> S a\nS -> b", [1, 0, 0, 0]),
+    let rows: [(&[u8], &[u8]); 14] = [
+        (b"S -> a", b""),
+        (b"S ->", b""),
+        (G1, b""),
+        (b"S -> S a\nS -> b", b"left recursive S"),
+        (b"S -> N S a\nS -> b\nN ->", b"left recursive S"),
         (
-            b"S -> p E q\nS -> c E T q\nE -> i\nT -> d E T\nT ->",
-            [0; 4],
+            b"S -> A\nA -> B a\nA -> c\nB -> A b\nB ->",
+            b"left recursive A",
         ),
-        (b"S ->", [0; 4]),
-        (b"S -> a", [0; 4]),
-        (b"S -> A\nA -> B a\nA -> c\nB -> A b\nB ->", [2, 0, 0, 0]),
-        (b"S -> N S a\nS -> b\nN ->", [1, 0, 0, 0]),
-        (b"S -> A\nS ->\nA ->", [1, 1, 1, 2]),
-        (b"S -> A a\nA -> b\nA -> a\nA ->", [2, 1, 3, 4]),
+        (b"S -> a\nS -> a b", b"conflict S on a: productions 1 2"),
+        (
+            b"S -> A\nS ->\nA ->",
+            b"conflict S on END: productions 1 2",
+        ),
+        (
+            b"S -> A a\nA -> b\nA -> a\nA ->",
+            b"conflict A on a: productions 3 4",
+        ),
         (
             b"S -> b\nS -> a\nS -> a c\nS -> b c\nS -> a d",
-            [1, 1, 1, 4],
+            b"conflict S on b: productions 1 4",
         ),
-    ];
-    for (text, numbers) in rows {
-        match numbers_of(rt.alloc(), text) {
-            Ok(found) => assert_eq!(rt; found, numbers),
-            Err(_) => assert!(rt; false, "a grammar is refused"),
-        }
-    }
-    Ok(())
-}
-
-#[test]
-fn source_grammar(rt: HostRuntime) -> Result<(), Fail> {
-    match numbers_of(rt.alloc(), G1) {
-        Ok(found) => assert_eq!(rt; found, [0; 4]),
-        Err(_) => assert!(rt; false, "the grammar of the source language is refused"),
-    }
-    Ok(())
-}
-
-/// The pair of a least conflict of PSLS, and the lengths of its two members.
-fn conflict_of(alloc: Global, text: &[u8]) -> Result<[usize; 4], GrammarFault> {
-    let grammar = Grammar::read(alloc, text)?;
-    let nullable = nullable(alloc, &grammar)?;
-    let lookbacks = lookbacks(alloc, &grammar, nullable.as_slice())?;
-    match least_lookback_conflict(alloc, &grammar, lookbacks.as_slice())? {
-        None => Ok([0; 4]),
-        Some(conflict) => Ok([
-            conflict.a as usize,
-            conflict.b as usize,
-            conflict.first.symbols().len(),
-            conflict.second.symbols().len(),
-        ]),
-    }
-}
-
-#[test]
-fn least_lookback_conflicts(rt: HostRuntime) -> Result<(), Fail> {
-    let rows: [(&[u8], [usize; 4]); 5] = [
         (
             b"S -> p E q\nS -> c E T q\nE -> i\nT -> d E T\nT ->",
-            [4, 2, 1, 2],
+            b"conflict i q: q | T q",
         ),
-        (b"S -> A b\nA -> a A N\nA -> c\nN ->", [3, 1, 1, 2]),
-        (b"S -> x a\nS -> y a N\nN -> z\nN ->", [2, 5, 1, 2]),
-        (b"S -> a", [0; 4]),
-        (b"S ->", [0; 4]),
+        (
+            b"S -> A b\nA -> a A N\nA -> c\nN ->",
+            b"conflict c b: b | N b",
+        ),
+        (
+            b"S -> x a\nS -> y a N\nN -> z\nN ->",
+            b"conflict a END: END | N END",
+        ),
+        (
+            b"S -> x a z\nS -> y a N\nN -> z",
+            b"conflict a z: z | N",
+        ),
     ];
-    for (text, numbers) in rows {
-        match conflict_of(rt.alloc(), text) {
-            Ok(found) => assert_eq!(rt; found, numbers),
+    for (text, line) in rows {
+        match Grammar::read(rt.alloc(), text) {
+            Ok(grammar) => assert_eq!(rt; line_of(rt.alloc(), &grammar)?.as_slice(), line),
             Err(_) => assert!(rt; false, "a grammar is refused"),
         }
     }
@@ -125,12 +92,9 @@ fn sizes_of(alloc: Global, text: &[u8]) -> Result<[usize; 2], GrammarFault> {
 
 #[test]
 fn source_lookbacks(rt: HostRuntime) -> Result<(), Fail> {
-    match (conflict_of(rt.alloc(), G1), sizes_of(rt.alloc(), G1)) {
-        (Ok(numbers), Ok(sizes)) => {
-            assert_eq!(rt; numbers, [0; 4]);
-            assert_eq!(rt; sizes, [237, 172]);
-        }
-        _ => assert!(rt; false, "the grammar of the source language is refused"),
+    match sizes_of(rt.alloc(), G1) {
+        Ok(sizes) => assert_eq!(rt; sizes, [237, 172]),
+        Err(_) => assert!(rt; false, "the grammar of the source language is refused"),
     }
     Ok(())
 }
