@@ -1,0 +1,4 @@
+pub mod Automaton
+pub mod Image
+pub mod Numbering
+pub mod Letters

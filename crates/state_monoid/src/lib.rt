@@ -1,0 +1,10 @@
+//! The functions from states to states that the words of an automaton make, composed and numbered: its transition monoid, as a monoid of words
+//! below 2^62 whose prefix sums run an automaton in parallel (Hillis and Steele, "Data Parallel Algorithms").
+#![tactic(auto)]
+
+mod dfa;
+mod letters;
+mod states;
+
+pub use dfa::Dfa;
+pub use states::States;
