@@ -1,2 +1,5 @@
 pub mod Functions
 pub mod Words
+pub mod Places
+pub mod Exploration
+pub mod Searching

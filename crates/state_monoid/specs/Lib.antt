@@ -1,4 +1,5 @@
 pub mod Automaton
 pub mod Image
 pub mod Numbering
-pub mod Letters
+pub mod Exploring
+pub mod Explored

@@ -1,9 +1,10 @@
 //! Automata.
-ghost use Rattle.std.specs.Prelude.{◌≡◌, ◌<◌, ◌≤◌};
+ghost use Rattle.std.specs.Prelude.{◌≡◌, ◌<◌, ◌≤◌, IfOk};
 ghost use Rattle.state_monoid.specs.Automaton.{IsAutomaton, step};
 ghost use Rattle.state_monoid.specs.Image.{image};
 
 use crate::states::States;
+use std::alloc::{AllocError, Global};
 use std::marker::Model;
 
 /// A deterministic automaton over the bytes, of 1 to 64 states. Contracts see its transition function.
@@ -56,6 +57,18 @@ impl Dfa {
         ensures within { result < self.now.states }
     {
         self.table[256 * state as usize + byte as usize]
+    }
+
+    // The same automaton once more.
+    pub(crate) fn copy(&self, alloc: Global) -> Result<Dfa, AllocError>
+        ensures same { IfOk result (λ d. d ≡ self.now) }
+        ensures automaton { IsAutomaton self.now }
+    {
+        let table = Vec::from_slice(alloc, &self.table)?;
+        Ok(Dfa {
+            states: self.states,
+            table,
+        })
     }
 
     /// For each state the one in which a word ends. It takes no memory.

@@ -3,8 +3,11 @@
 #![tactic(auto)]
 
 mod dfa;
+mod explore;
+mod fault;
 mod letters;
 mod states;
 
 pub use dfa::Dfa;
+pub use fault::BuildFault;
 pub use states::States;
