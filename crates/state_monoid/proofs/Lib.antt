@@ -3,3 +3,4 @@ pub mod Words
 pub mod Places
 pub mod Exploration
 pub mod Searching
+pub mod Joining

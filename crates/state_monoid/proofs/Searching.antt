@@ -77,7 +77,7 @@ explored_new d letters fs os f o so few reached before letter is = record {
       (get_pushed os o c p at);
 }
 
-both : {A B : Type 0} (P : A → B → Type 0) {a a' : A} {b b' : B} → a ≡ a' → b ≡ b' → P a b → P a' b'
+pub both : {A B : Type 0} (P : A → B → Type 0) {a a' : A} {b b' : B} → a ≡ a' → b ≡ b' → P a b → P a' b'
 both P {a} {a'} {b} {b'} e h p = subst (λ x. P x b') e (subst (P a) h p)
 
 module _ (fs : List (List ℕ)) (os : List Origin) (f : List ℕ) (o : Origin) (fs' : List (List ℕ)) (os' : List Origin) (c : ℕ) (step : IsNumbered fs os f o fs' os' c) where

@@ -1,5 +1,5 @@
 -- What a search over the functions of an automaton has found.
-use Rattle.std.specs.Prelude.{◌≡◌, ◌⊎◌, ℕ, ◌+◌, ◌<◌, ◌≤◌, List, [], ◌∷◌, ◌++◌, length, Some, slice_get, slice_index, slice_index_or, All}
+use Rattle.std.specs.Prelude.{◌≡◌, ◌⊎◌, ℕ, ◌+◌, ◌*◌, ◌<◌, ◌≤◌, List, [], ◌∷◌, ◌++◌, length, map, Some, slice_get, slice_index, slice_index_or, All}
 use Rattle.state_monoid.specs.Automaton.{Automaton}
 use Rattle.state_monoid.specs.Image.{image, compose, IsReached}
 use Rattle.state_monoid.specs.declared.explore.Origin.{Origin}
@@ -36,3 +36,15 @@ pub record IsRow (letters fs : List (List ℕ)) (f row : List ℕ) (n : ℕ) : T
 -- a row for each of the first functions
 abbrev pub AreRows : List (List ℕ) → List (List ℕ) → List (List ℕ) → Type 0
 AreRows letters fs rows = (c : ℕ) (row : List ℕ) → slice_get rows c ≡ Some row → IsRow letters fs (slice_index_or fs c []) row (length letters)
+
+-- for each of the first n letters, what the rows have at it
+pub record AreColumns (rows : List (List ℕ)) (n : ℕ) (columns : List (List ℕ)) : Type 0 where
+  pub one_for_each : length columns ≡ n
+  pub each_letter : (g : ℕ) → g < n → slice_index_or columns g [] ≡ map (λ row. slice_index row g) rows
+
+-- for each of the first n functions the numbers of all functions with it behind them
+pub record AreJoined (fs : List (List ℕ)) (n : ℕ) (joins : List ℕ) : Type 0 where
+  pub one_for_each : length joins ≡ n * length fs
+  pub codes : All (λ code. code < length fs) joins
+  pub each_pair : (a b : ℕ) → a < length fs → b < n
+      → slice_get fs (slice_index joins (b * length fs + a)) ≡ Some (compose (slice_index_or fs a []) (slice_index_or fs b []))

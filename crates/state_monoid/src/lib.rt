@@ -5,6 +5,7 @@
 mod dfa;
 mod explore;
 mod fault;
+mod joins;
 mod letters;
 mod states;
 
