@@ -8,7 +8,7 @@ use Rattle.word_monoid.proofs.Folds.{get_below}
 use Rattle.state_monoid.specs.Automaton.{Automaton, IsAutomaton, IsWord}
 use Rattle.state_monoid.specs.Image.{IsFunction, compose, image, IsReached, IsNumbering, HasMoreThan}
 use Rattle.state_monoid.specs.Exploring.{IsLetter, AreLetters}
-use Rattle.state_monoid.proofs.Places.{equal_lists, get_append, get_last, get_pushed, all_pushed, length_pushed, pushed_below, pushed_last, value_get, get_value, inserted}
+use Rattle.state_monoid.specs.Places.{equal_lists, get_append, get_last, get_pushed, all_pushed, length_pushed, pushed_below, pushed_last, value_get, get_value, inserted}
 
 pub letters_step : (d : Automaton) (n : ℕ) (letters : List (List ℕ)) (of_byte : List ℕ) (new : List (List ℕ)) (r : ℕ) (f k : List ℕ)
     → AreLetters d n letters of_byte → n < 256 → f ≡ image d (n ∷ []) → new ≡ insert_key (pointwise nat_eq) letters f

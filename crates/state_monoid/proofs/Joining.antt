@@ -13,28 +13,10 @@ use Rattle.state_monoid.specs.Image.{IsFunction, compose, image, IsReached}
 use Rattle.state_monoid.specs.declared.explore.Origin.{Origin}
 use Rattle.state_monoid.specs.Exploring.{IsLetter, AreLetters}
 use Rattle.state_monoid.specs.Explored.{IsMade, AreExplored, IsRow, AreRows, AreColumns, AreJoined}
-use Rattle.state_monoid.proofs.Functions.{map_map, map_id, map_same}
-use Rattle.state_monoid.proofs.Places.{value_get, get_value, length_pushed, pushed_below, pushed_last}
-use Rattle.state_monoid.proofs.Words.{length-image, image_function, image_none, image_below}
-use Rattle.state_monoid.proofs.Searching.{reached_length}
-
-pub compose_assoc : (f g h : List ℕ) → All (λ s. s < length g) f → compose (compose f g) h ≡ compose f (compose g h)
-compose_assoc f g h all =
-    map_map (slice_index h) (slice_index g) f
-    ∙ map_same (λ s. slice_index h (slice_index g s)) (slice_index (compose g h)) f (λ k d b. sym (get_or-map (slice_index h) g _ 0 0 (all k d b)))
-
-module _ (d : Automaton) (valid : IsAutomaton d) where
-  pub reached_below : (f : List ℕ) → IsReached d f → All (λ s. s < d.states) f
-  reached_below f r = subst (λ (l : List ℕ). All (λ s. s < d.states) l) r.2 (image_below d valid r.0 r.1)
-
-  pub reached_assoc : (f g h : List ℕ) → IsReached d f → IsReached d g → compose (compose f g) h ≡ compose f (compose g h)
-  reached_assoc f g h fr gr = compose_assoc f g h (subst (λ (n : ℕ). All (λ s. s < n) f) (sym (reached_length d g gr)) (reached_below f fr))
-
-  pub reached_identity : (f : List ℕ) → IsReached d f → compose f (image d []) ≡ f
-  reached_identity f fr =
-      map_same (slice_index (image d [])) (λ s. s) f
-        (λ k e b. ap (λ (l : List ℕ). slice_index l (get_or f k e)) (image_none d) ∙ (get_or-range_with_len 0 d.states (get_or f k e) 0 (reached_below f fr k e b) ∙ (omega arith)))
-      ∙ map_id f
+use Rattle.state_monoid.specs.Functions.{map_map, map_id, map_same}
+use Rattle.state_monoid.specs.Places.{value_get, get_value, length_pushed, pushed_below, pushed_last}
+use Rattle.state_monoid.specs.Words.{length-image, image_function, image_none, image_below}
+use Rattle.state_monoid.specs.Reached.{reached_assoc, reached_identity}
 
 pub columns_more : (rows columns : List (List ℕ)) (column : List ℕ) (n : ℕ) → AreColumns rows n columns → column ≡ map (λ row. slice_index row n) rows → AreColumns rows (n + 1) (columns ++ column ∷ [])
 columns_more rows columns column n so is = record {

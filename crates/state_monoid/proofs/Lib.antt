@@ -1,6 +1,4 @@
-pub mod Functions
-pub mod Words
-pub mod Places
 pub mod Exploration
 pub mod Searching
 pub mod Joining
+pub mod Complete

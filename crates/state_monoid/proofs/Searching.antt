@@ -14,20 +14,18 @@ use Rattle.state_monoid.specs.declared.fault.BuildFault.{BuildFault}
 use Rattle.std.specs.Prelude.{Result, Err}
 use Rattle.state_monoid.specs.Exploring.{IsLetter, AreLetters}
 use Rattle.state_monoid.specs.Explored.{StaysIn, IsNumbered, IsMade, AreExplored, IsRow, AreRows}
-use Rattle.state_monoid.proofs.Places.{get_append, get_last, get_pushed, all_pushed, length_pushed, pushed_below, pushed_last, value_get, get_value, some_inj, no_item}
-use Rattle.state_monoid.proofs.Words.{length-image, image_append}
+use Rattle.state_monoid.specs.Places.{get_append, get_last, get_pushed, all_pushed, length_pushed, pushed_below, pushed_last, value_get, get_value, some_inj, no_item}
+use Rattle.state_monoid.specs.Words.{length-image, image_append}
+use Rattle.state_monoid.specs.Reached.{reached_length}
 
 pub distinct_functions : (fs : List (List ℕ)) → IsDistinct (pointwise nat_eq) fs → AllPairs (λ f g. f ≢ g) fs
 distinct_functions fs h = AllPairs-from_IsDistinct bytes_decides fs h
 
 module _ (d : Automaton) where
-  pub reached_length : (f : List ℕ) → IsReached d f → length f ≡ d.states
-  reached_length f r = ap (λ (l : List ℕ). length l) (sym r.2) ∙ length-image d r.0
-
   pub letter_length : (f : List ℕ) → IsLetter d f → length f ≡ d.states
   letter_length f r = ap (λ (l : List ℕ). length l) (sym r.2) ∙ length-image d (r.0 ∷ [])
 
-  one_byte : (b : ℕ) → b < 256 → IsWord (b ∷ [])
+  pub one_byte : (b : ℕ) → b < 256 → IsWord (b ∷ [])
   one_byte b h zero e k = h
   one_byte b h (suc i) e k = absurd (omega arith)
 

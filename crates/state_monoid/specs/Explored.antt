@@ -48,3 +48,10 @@ pub record AreJoined (fs : List (List ℕ)) (n : ℕ) (joins : List ℕ) : Type 
   pub codes : All (λ code. code < length fs) joins
   pub each_pair : (a b : ℕ) → a < length fs → b < n
       → slice_get fs (slice_index joins (b * length fs + a)) ≡ Some (compose (slice_index_or fs a []) (slice_index_or fs b []))
+
+-- the tables of numbered functions: the identity's number is 0, the number of each byte's function, and the joins of all
+pub record AreTables (d : Automaton) (fs : List (List ℕ)) (bytes joins : List ℕ) : Type 0 where
+  pub identity : slice_get fs 0 ≡ Some (image d [])
+  pub one_for_each : length bytes ≡ 256
+  pub each_byte : (b : ℕ) → b < 256 → slice_get fs (slice_index bytes b) ≡ Some (image d (b ∷ []))
+  pub joined : AreJoined fs (length fs) joins

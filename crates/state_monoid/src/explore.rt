@@ -90,6 +90,7 @@ pub(crate) fn explore(alloc: Global, letters: &Letters) -> Result<Explored, Buil
     ensures explored { IfOk result (λ e. AreExplored letters.now.dfa letters.now.functions.keys e.functions.keys e.origins.items) }
     ensures rows { IfOk result (λ e. AreRows letters.now.functions.keys e.functions.keys (map (λ row. row.items) e.rows.items)) }
     ensures all { IfOk result (λ e. length e.rows.items ≡ length e.functions.keys) }
+    ensures distinct { IfOk result (λ e. IsDistinct (pointwise nat_eq) e.functions.keys) }
     ensures too_many { (reached : ℕ) → result ≡ Err (TooMany reached) → HasMoreThan letters.now.dfa 4096 × (reached ≡ 4097) }
 {
     let mut functions = IndexSet::new(alloc);

@@ -47,8 +47,8 @@ fn all_codes(alloc: Global, count: u16) -> Result<Vec<u16>, AllocError>
     Ok(codes)
 }
 
-// What a column has at each code.
-fn followed(alloc: Global, codes: &[u16], column: &[u16]) -> Result<Vec<u16>, AllocError>
+/// What a column has at each code.
+pub(crate) fn followed(alloc: Global, codes: &[u16], column: &[u16]) -> Result<Vec<u16>, AllocError>
     requires { All (λ code. code < length column.now) codes.now }
     ensures { IfOk result (λ v. v.items ≡ map (slice_index column.now) codes.now) }
 {

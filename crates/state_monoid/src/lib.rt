@@ -2,6 +2,7 @@
 //! below 2^62 whose prefix sums run an automaton in parallel (Hillis and Steele, "Data Parallel Algorithms").
 #![tactic(auto)]
 
+mod compositions;
 mod dfa;
 mod explore;
 mod fault;
@@ -9,6 +10,7 @@ mod joins;
 mod letters;
 mod states;
 
+pub use compositions::Compositions;
 pub use dfa::Dfa;
 pub use fault::BuildFault;
 pub use states::States;

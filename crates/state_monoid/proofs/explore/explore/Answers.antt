@@ -4,8 +4,8 @@ use Rattle.std.proofs.lemmas.List.{length-map, map-append}
 use Rattle.state_monoid.specs.Image.{image}
 use Rattle.state_monoid.specs.declared.explore.Origin.{Origin}
 use Rattle.state_monoid.specs.Explored.{AreExplored, AreRows, IsRow, IsNumbered}
-use Rattle.state_monoid.proofs.Words.{image_none}
-use Rattle.state_monoid.proofs.Places.{length_pushed, no_item}
+use Rattle.state_monoid.specs.Words.{image_none}
+use Rattle.state_monoid.specs.Places.{length_pushed, no_item}
 use Rattle.state_monoid.proofs.Searching.{explored_first, rows_more, stays_below}
 use Rattle.state_monoid.proofs.explore.explore.Goals as goal
 

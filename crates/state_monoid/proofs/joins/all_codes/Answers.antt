@@ -1,6 +1,6 @@
 use Rattle.std.proofs.Common.{◌≡◌, ◌∙◌, ◌+◌, ◌++◌, ℕ, List, [], ◌∷◌, ap, sym, arith}
 use Rattle.std.specs.List.{range_with_len}
-use Rattle.state_monoid.proofs.Functions.{range_more}
+use Rattle.state_monoid.specs.Functions.{range_more}
 use Rattle.state_monoid.proofs.joins.all_codes.Goals as goal
 
 pub loop-code-preserved : goal.loop-code-preserved

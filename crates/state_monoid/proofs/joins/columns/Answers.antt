@@ -2,7 +2,7 @@ use Rattle.std.proofs.Common.{◌≡◌, ◌∙◌, ◌++◌, ◌+◌, List, ℕ
 use Rattle.std.specs.Prelude.{slice_index}
 use Rattle.std.proofs.lemmas.List.{map-append}
 use Rattle.state_monoid.specs.Explored.{AreColumns}
-use Rattle.state_monoid.proofs.Functions.{map_map}
+use Rattle.state_monoid.specs.Functions.{map_map}
 use Rattle.state_monoid.proofs.Joining.{columns_more}
 use Rattle.state_monoid.proofs.joins.columns.Goals as goal
 

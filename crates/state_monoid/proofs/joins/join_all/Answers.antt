@@ -4,7 +4,7 @@ use Rattle.std.specs.List.{range_with_len}
 use Rattle.std.proofs.lemmas.List.{length-map}
 use Rattle.state_monoid.specs.declared.explore.Origin.{Origin}
 use Rattle.state_monoid.specs.Explored.{AreRows, AreColumns, AreJoined}
-use Rattle.state_monoid.proofs.Places.{item_at}
+use Rattle.state_monoid.specs.Places.{item_at}
 use Rattle.state_monoid.proofs.Searching.{both}
 use Rattle.state_monoid.proofs.Joining.{Joins, join_step, joined_first, rows_length, column_read}
 use Rattle.state_monoid.proofs.joins.join_all.Goals as goal

@@ -1,7 +1,7 @@
 use Rattle.std.proofs.Common.{◌≡◌, ◌∙◌, ◌<◌, ℕ, length, ap, arith}
 use Rattle.std.proofs.lemmas.List.Elements.{All-set}
 use Rattle.state_monoid.specs.Automaton.{step}
-use Rattle.state_monoid.proofs.Functions.{mapped_more, mapped_all}
+use Rattle.state_monoid.specs.Functions.{mapped_more, mapped_all}
 use Rattle.state_monoid.proofs.states.advance.Goals as goal
 
 pub after-requires : goal.after-requires

@@ -1,7 +1,7 @@
 use Rattle.std.proofs.Common.{◌≡◌, ◌∙◌, ◌+◌, List, ℕ, take, length, map, get_or, ap, sym, arith}
 use Rattle.state_monoid.specs.Image.{image}
 use Rattle.state_monoid.specs.Automaton.{step}
-use Rattle.state_monoid.proofs.Words.{length-image, image_next}
+use Rattle.state_monoid.specs.Words.{length-image, image_next}
 use Rattle.state_monoid.proofs.dfa.Dfa.of_bytes.Goals as goal
 
 pub follow-requires : goal.follow-requires

@@ -3,7 +3,7 @@ use Rattle.std.proofs.Math.Seq.{take-append_seam}
 use Rattle.std.proofs.lemmas.List.{length-map, length-take-le}
 use Rattle.state_monoid.specs.Image.{IsFunction}
 use Rattle.state_monoid.specs.Automaton.{step}
-use Rattle.state_monoid.proofs.Functions.{IsFunction-front}
+use Rattle.state_monoid.specs.Functions.{IsFunction-front}
 use Rattle.state_monoid.proofs.states.States.follow.Goals as goal
 
 pub invariant_of-self : goal.invariant_of-self

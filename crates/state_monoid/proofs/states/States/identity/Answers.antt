@@ -2,7 +2,7 @@ use Rattle.std.proofs.Common.{◌≡◌, ◌∙◌, length, take, arith, subst, 
 use Rattle.std.proofs.lemmas.List.{length-set}
 use Rattle.std.specs.List.{range_with_len}
 use Rattle.state_monoid.specs.Image.{IsFunction}
-use Rattle.state_monoid.proofs.Functions.{range_written, IsFunction-range}
+use Rattle.state_monoid.specs.Functions.{range_written, IsFunction-range}
 use Rattle.state_monoid.proofs.states.States.identity.Goals as goal
 
 pub loop-state-preserved : goal.loop-state-preserved

@@ -1,7 +1,7 @@
 use Rattle.std.proofs.Common.{◌≡◌, ◌∙◌, length, take, ap, arith, subst, sym}
 use Rattle.std.proofs.lemmas.List.{length-set, length-take-le}
 use Rattle.state_monoid.specs.Image.{IsFunction, compose}
-use Rattle.state_monoid.proofs.Functions.{composed_written, IsFunction-compose}
+use Rattle.state_monoid.specs.Functions.{composed_written, IsFunction-compose}
 use Rattle.state_monoid.proofs.states.States.then.Goals as goal
 
 pub loop-state-preserved : goal.loop-state-preserved

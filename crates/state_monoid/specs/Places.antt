@@ -1,7 +1,8 @@
 -- Items of lists by their places, and a list that a new item is put behind.
-use Rattle.std.proofs.Common.{◌≡◌, ◌⊎◌, ℕ, zero, suc, ◌+◌, ◌<◌, ◌≤◌, Bool, true, false, List, [], ◌∷◌, ◌++◌, length, get_or, All, Some, slice_get, refl, sym, ap, subst, ◌∙◌, arith, inl, inr}
+use Rattle.std.proofs.Common.{◌≡◌, ◌⊎◌, ℕ, zero, suc, ◌+◌, ◌*◌, ◌<◌, ◌≤◌, Bool, true, false, List, [], ◌∷◌, ◌++◌, length, get_or, All, Some, slice_get, refl, sym, ap, subst, ◌∙◌, arith, inl, inr}
 use Rattle.std.specs.Prelude.{nat_eq, if◌then◌else◌}
 use Rattle.std.specs.List.{list_any}
+use Rattle.std.proofs.Math.Nat.{mul-le-mul_right}
 use Rattle.std.specs.Cmp.Lexicographic.{pointwise, bytes_decides}
 use Rattle.std.proofs.lemmas.List.{length-append}
 use Rattle.std.proofs.lemmas.List.Elements.{All-append}
@@ -76,3 +77,12 @@ module _ {X : Type 0} where
   pub no_item : (c : ℕ) (x : X) → slice_get [] c ≡ Some x → ⊥
   no_item zero x h = cc
   no_item (suc c) x h = cc
+
+  pub read_is : (xs : List X) (i : ℕ) (r d : X) → r ≡ get_or xs i r → i < length xs → get_or xs i d ≡ r
+  read_is xs i r d is h = get_value xs i r d (item_at xs xs i r is refl h)
+
+pub pair_below : (n a b : ℕ) → a < n → b < n → b * n + a < n * n
+pair_below n a b h k =
+    let next : b + 1 ≤ n = omega arith in
+    let product : (b + 1) * n ≤ n * n = mul-le-mul_right n next in
+    omega (arith, product)

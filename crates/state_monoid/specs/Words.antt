@@ -7,7 +7,7 @@ use Rattle.std.proofs.lemmas.List.FromFn.{length-map-range_with_len, get_or-map-
 use Rattle.word_monoid.proofs.Folds.{all_first, all_rest}
 use Rattle.state_monoid.specs.Automaton.{Automaton, IsAutomaton, IsWord, step, run}
 use Rattle.state_monoid.specs.Image.{IsFunction, compose, image}
-use Rattle.state_monoid.proofs.Functions.{map_map, map_id, map_same, all_map}
+use Rattle.state_monoid.specs.Functions.{map_map, map_id, map_same, all_map}
 
 module _ (d : Automaton) where
   pub run_append : (s : ℕ) (u v : List ℕ) → run d s (u ++ v) ≡ run d (run d s u) v
