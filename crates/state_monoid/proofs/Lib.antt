@@ -2,3 +2,5 @@ pub mod Exploration
 pub mod Searching
 pub mod Joining
 pub mod Complete
+pub mod Counting
+pub mod Prefixes

@@ -4,6 +4,7 @@ use Rattle.std.proofs.Math.Logic.{∥∥₁_elim}
 use Rattle.std.specs.Prelude.{nat_eq, nat_lt, slice_index_or, AllPairs, Contains}
 use mathlib.Core.Bool.{Bool-set}
 use native.Mathlib.Nat.{ℕ_set}
+use Rattle.std.specs.Coded.{le_prop}
 use Rattle.std.specs.List.{position_or_len}
 use Rattle.std.specs.Cmp.Lexicographic.{pointwise, bytes_decides}
 use Rattle.std.proofs.lemmas.Bool.{lt-ltb, ltb-true}
@@ -107,7 +108,7 @@ module _ (m : Numbering) (all : IsNumbering m.automaton m.functions) where
   }
 
 monoid_prop : (m : Numbering) → IsProp (IsMonoid (composition m))
-monoid_prop m = hlevel (Bool-set, ℕ_set)
+monoid_prop m = hlevel (Bool-set, ℕ_set, le_prop)
 
 pub composition_is_monoid : (m : Numbering) → IsMonoid (composition m)
 composition_is_monoid m = ∥∥₁_elim m.numbers_all (monoid_prop m) (λ all. composition_laws m all)

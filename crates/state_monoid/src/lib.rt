@@ -7,10 +7,14 @@ mod dfa;
 mod explore;
 mod fault;
 mod joins;
+mod laws;
 mod letters;
 mod states;
 
 pub use compositions::Compositions;
 pub use dfa::Dfa;
 pub use fault::BuildFault;
+pub use laws::{
+    composition_is_associative, few_or_too_many, prefixes_are_runs, words_compose,
+};
 pub use states::States;
