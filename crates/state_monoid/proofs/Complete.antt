@@ -34,8 +34,7 @@ module _ (d : Automaton) (letters fs : List (List ℕ)) (os : List Origin) (rows
       let byte : b < 256 = all_first (λ b. b < 256) b word w in
       let fr : IsReached d f = all_at (IsReached d) fs c f so.reached at in
       let gr : IsReached d (image d (b ∷ [])) = (b ∷ [], one_byte d b byte, refl) in
-      let rest = word_after word (all_rest (λ b. b < 256) b word w) (slice_index (slice_index_or rows c []) (slice_index of_byte b)) (compose f (image d (b ∷ []))) (next_byte c f b byte at) in
-      (
+      let rest = word_after word (all_rest (λ b. b < 256) b word w) (slice_index (slice_index_or rows c []) (slice_index of_byte b)) (compose f (image d (b ∷ []))) (next_byte c f b byte at) in (
         rest.0,
         rest.1 ∙ ap Some (reached_assoc d ls.valid f (image d (b ∷ [])) (image d word) fr gr ∙ ap (compose f) (sym (image_append d ls.valid (b ∷ []) word (one_byte d b byte)))),
       )
@@ -58,9 +57,9 @@ module _ (d : Automaton) (letters fs : List (List ℕ)) (os : List Origin) (rows
     identity = so.first;
     one_for_each = ap (λ (l : List ℕ). length l) is ∙ (length-map of_byte (slice_index (slice_index_or rows 0 [])) ∙ ls.one_for_each);
     each_byte = λ b h.
-      let at : slice_index bytes b ≡ slice_index (slice_index_or rows 0 []) (slice_index of_byte b) =
+        let at : slice_index bytes b ≡ slice_index (slice_index_or rows 0 []) (slice_index of_byte b) =
         ap (λ (l : List ℕ). slice_index l b) is ∙ get_or-map (slice_index (slice_index_or rows 0 [])) of_byte b 0 0 (let len = ls.one_for_each in omega arith) in
-      ap (slice_get fs) at ∙ (next_byte 0 (image d []) b h so.first ∙ ap Some (identity_reached d ls.valid (image d (b ∷ [])) (b ∷ [], one_byte d b h, refl)));
+        ap (slice_get fs) at ∙ (next_byte 0 (image d []) b h so.first ∙ ap Some (identity_reached d ls.valid (image d (b ∷ [])) (b ∷ [], one_byte d b h, refl)));
     joined = joined;
   }
 

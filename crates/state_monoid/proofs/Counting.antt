@@ -12,10 +12,10 @@ pub too_many : (d : Automaton) (functions : List (List ℕ)) → IsNumbering d f
 too_many d functions all few more =
     let distinct : IsDistinct (pointwise nat_eq) more.functions = IsDistinct-from_AllPairs bytes_decides more.functions more.distinct in
     let inside : (f : List ℕ) → is_member (pointwise nat_eq) more.functions f ≡ true → is_member (pointwise nat_eq) functions f ≡ true =
-        λ f h.
-          let at : Contains more.functions f = (is_member-Decides bytes_decides more.functions f).0 h in
-          let r : IsReached d f = subst (IsReached d) at.2 (more.reached at.0 f at.1) in
-          (is_member-Decides bytes_decides functions f).1 (subst (Contains functions) r.2 (all.complete r.0 r.1)) in
+    λ f h.
+    let at : Contains more.functions f = (is_member-Decides bytes_decides more.functions f).0 h in
+    let r : IsReached d f = subst (IsReached d) at.2 (more.reached at.0 f at.1) in
+    (is_member-Decides bytes_decides functions f).1 (subst (Contains functions) r.2 (all.complete r.0 r.1)) in
     let most : length more.functions ≤ length functions = length-le_from_is_member nat_list_eq_equiv more.functions functions distinct inside in
     let count = more.count in
     omega arith

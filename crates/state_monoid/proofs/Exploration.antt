@@ -15,8 +15,8 @@ pub letters_step : (d : Automaton) (n : ℕ) (letters : List (List ℕ)) (of_byt
     → slice_get new r ≡ Some k → pointwise nat_eq f k ≡ true → AreLetters d (n + 1) new (of_byte ++ r ∷ [])
 letters_step d n letters of_byte new r f k a small is made at same =
     let stays : (c : ℕ) (g : List ℕ) → slice_get letters c ≡ Some g → slice_get new c ≡ Some g =
-        λ c g h. subst (λ (l : List (List ℕ)). slice_get l c ≡ Some g) (sym made)
-          (inserted (pointwise nat_eq) (λ l. slice_get l c ≡ Some g) letters f h (get_append letters (f ∷ []) c g h)) in
+    λ c g h. subst (λ (l : List (List ℕ)). slice_get l c ≡ Some g) (sym made)
+    (inserted (pointwise nat_eq) (λ l. slice_get l c ≡ Some g) letters f h (get_append letters (f ∷ []) c g h)) in
     record {
       valid = a.valid;
       some_byte = subst (All (IsLetter d)) (sym made) (inserted (pointwise nat_eq) (All (IsLetter d)) letters f a.some_byte (all_pushed (IsLetter d) letters f a.some_byte (n, small, sym is)));
@@ -26,8 +26,8 @@ letters_step d n letters of_byte new r f k a small is made at same =
       each_byte = λ b h. ⊎_elim
           (λ (below : b < n). ap (slice_get new) (pushed_below of_byte r 0 b (let len = a.one_for_each in omega arith)) ∙ stays (slice_index of_byte b) (image d (b ∷ [])) (a.each_byte b below))
           (λ (above : n ≤ b).
-            let here : b ≡ n = omega arith in
-            ap (slice_get new) (pushed_last of_byte r 0 b (let len = a.one_for_each in omega arith))
-            ∙ (at ∙ ap Some (sym (equal_lists f k same) ∙ (is ∙ ap (λ (c : ℕ). image d (c ∷ [])) (sym here)))))
+          let here : b ≡ n = omega arith in
+          ap (slice_get new) (pushed_last of_byte r 0 b (let len = a.one_for_each in omega arith))
+          ∙ (at ∙ ap Some (sym (equal_lists f k same) ∙ (is ∙ ap (λ (c : ℕ). image d (c ∷ [])) (sym here)))))
           (cases_lt b n);
     }

@@ -24,8 +24,8 @@ columns_more rows columns column n so is = record {
   each_letter = λ g h. ⊎_elim
       (λ (below : g < n). pushed_below columns column [] g (let len = so.one_for_each in omega arith) ∙ so.each_letter g below)
       (λ (above : n ≤ g).
-        let here : g ≡ n = omega arith in
-        pushed_last columns column [] g (let len = so.one_for_each in omega arith) ∙ (is ∙ ap (λ (k : ℕ). map (λ row. slice_index row k) rows) (sym here)))
+      let here : g ≡ n = omega arith in
+      pushed_last columns column [] g (let len = so.one_for_each in omega arith) ∙ (is ∙ ap (λ (k : ℕ). map (λ row. slice_index row k) rows) (sym here)))
       (cases_lt g n);
 }
 
@@ -41,10 +41,10 @@ column_of letters fs rows columns g so all cs h =
     record {
       one_for_each = ap (λ (l : List ℕ). length l) is ∙ (length-map rows (λ row. slice_index row g) ∙ all);
       each_function = λ a b.
-        let inside : a < length rows = omega arith in
-        let row : List ℕ = slice_index_or rows a [] in
-        let at : slice_index (slice_index_or columns g []) a ≡ slice_index row g = ap (λ (l : List ℕ). slice_index l a) is ∙ get_or-map (λ row. slice_index row g) rows a [] 0 inside in
-        ap (slice_get fs) at ∙ (so a row (value_get rows a [] inside)).each_letter g h;
+          let inside : a < length rows = omega arith in
+          let row : List ℕ = slice_index_or rows a [] in
+          let at : slice_index (slice_index_or columns g []) a ≡ slice_index row g = ap (λ (l : List ℕ). slice_index l a) is ∙ get_or-map (λ row. slice_index row g) rows a [] 0 inside in
+          ap (slice_get fs) at ∙ (so a row (value_get rows a [] inside)).each_letter g h;
     }
 
 pub column_codes : (fs : List (List ℕ)) (letter column : List ℕ) → IsColumn fs letter column → All (λ code. code < length fs) column
@@ -59,16 +59,16 @@ pub joined_first : (d : Automaton) → IsAutomaton d → (letters fs : List (Lis
 joined_first d valid letters fs os so = record {
   one_for_each = let len = length-range_with_len 0 (length fs) in omega arith;
   codes = λ k e h.
-    let len = length-range_with_len 0 (length fs) in
-    let at : get_or (range_with_len 0 (length fs)) k e ≡ 0 + k = get_or-range_with_len 0 (length fs) k e (omega arith) in
-    omega (arith, at);
+      let len = length-range_with_len 0 (length fs) in
+      let at : get_or (range_with_len 0 (length fs)) k e ≡ 0 + k = get_or-range_with_len 0 (length fs) k e (omega arith) in
+      omega (arith, at);
   each_pair = λ a b h k.
-    let none : b ≡ 0 = omega arith in
-    let place : b * length fs + a ≡ a = ap (λ (n : ℕ). n * length fs + a) none ∙ (omega arith) in
-    let at : slice_index (range_with_len 0 (length fs)) (b * length fs + a) ≡ a = ap (slice_index (range_with_len 0 (length fs))) place ∙ (get_or-range_with_len 0 (length fs) a 0 h ∙ (omega arith)) in
-    let f : List ℕ = slice_index_or fs a [] in
-    let first : slice_index_or fs b [] ≡ image d [] = ap (λ (n : ℕ). slice_index_or fs n []) none ∙ get_value fs 0 (image d []) [] so.first in
-    ap (slice_get fs) at ∙ (value_get fs a [] h ∙ ap Some (sym (ap (compose f) first ∙ reached_identity d valid f (so.reached a [] h))));
+      let none : b ≡ 0 = omega arith in
+      let place : b * length fs + a ≡ a = ap (λ (n : ℕ). n * length fs + a) none ∙ (omega arith) in
+      let at : slice_index (range_with_len 0 (length fs)) (b * length fs + a) ≡ a = ap (slice_index (range_with_len 0 (length fs))) place ∙ (get_or-range_with_len 0 (length fs) a 0 h ∙ (omega arith)) in
+      let f : List ℕ = slice_index_or fs a [] in
+      let first : slice_index_or fs b [] ≡ image d [] = ap (λ (n : ℕ). slice_index_or fs n []) none ∙ get_value fs 0 (image d []) [] so.first in
+      ap (slice_get fs) at ∙ (value_get fs a [] h ∙ ap Some (sym (ap (compose f) first ∙ reached_identity d valid f (so.reached a [] h))));
 }
 
 -- the joins with one function more
@@ -121,28 +121,28 @@ module _ (d : Automaton) (valid : IsAutomaton d) (letters fs : List (List ℕ)) 
   unfolding before_at
   joins_more = record {
     one_for_each =
-      let len = done.one_for_each in
-      let more : length (map (slice_index column) before_at) ≡ length fs = length-map before_at (slice_index column) ∙ length-before_at in
-      let sum = length-append joins (map (slice_index column) before_at) in
-      omega (arith, len, more, sum);
+        let len = done.one_for_each in
+        let more : length (map (slice_index column) before_at) ≡ length fs = length-map before_at (slice_index column) ∙ length-before_at in
+        let sum = length-append joins (map (slice_index column) before_at) in
+        omega (arith, len, more, sum);
     codes = All-append (λ code. code < length fs) joins (map (slice_index column) before_at) done.codes
-      (λ k e h.
+        (λ k e h.
         let more : length (map (slice_index column) before_at) ≡ length fs = length-map before_at (slice_index column) ∙ length-before_at in
         let inside : k < length before_at = (let len = length-before_at in omega arith) in
         let at : get_or (map (slice_index column) before_at) k e ≡ slice_index column (slice_index before_at k) = get_or-map (slice_index column) before_at k 0 e inside in
         let below = get_below fs (slice_index column (slice_index before_at k)) _ (new_pair k (omega (arith, more, h))) in
         omega (arith, at, below));
     each_pair = λ a b h k. ⊎_elim
-      (λ (below : b < n). ap (slice_get fs) (get_or_append_left joins (map (slice_index column) before_at) 0 (b * length fs + a) (old_pair a b h below)) ∙ done.each_pair a b h below)
-      (λ (above : n ≤ b).
+        (λ (below : b < n). ap (slice_get fs) (get_or_append_left joins (map (slice_index column) before_at) 0 (b * length fs + a) (old_pair a b h below)) ∙ done.each_pair a b h below)
+        (λ (above : n ≤ b).
         let here : b ≡ n = omega arith in
         let place : b * length fs + a ≡ length joins + a = ap (λ (m : ℕ). m * length fs + a) here ∙ ap (λ (m : ℕ). m + a) (sym done.one_for_each) in
         let inside : a < length before_at = (let len = length-before_at in omega arith) in
         let at : slice_index (joins ++ map (slice_index column) before_at) (b * length fs + a) ≡ slice_index column (slice_index before_at a) =
-          ap (slice_index (joins ++ map (slice_index column) before_at)) place
-          ∙ (get_or-append-add joins (map (slice_index column) before_at) a 0 ∙ get_or-map (slice_index column) before_at a 0 0 inside) in
+        ap (slice_index (joins ++ map (slice_index column) before_at)) place
+        ∙ (get_or-append-add joins (map (slice_index column) before_at) a 0 ∙ get_or-map (slice_index column) before_at a 0 0 inside) in
         ap (slice_get fs) at ∙ (new_pair a h ∙ ap (λ (m : ℕ). Some (compose (slice_index_or fs a []) (slice_index_or fs m []))) (sym here)))
-      (cases_lt b n);
+        (cases_lt b n);
   }
 
 -- one step of the table, at the origin of the function that comes next

@@ -56,22 +56,22 @@ explored_new d letters fs os f o so few reached before letter is = record {
   one_for_each = length_pushed os o ∙ (ap (λ (n : ℕ). n + 1) so.one_for_each ∙ sym (length_pushed fs f));
   origins = λ c p above at. ⊎_elim
       (λ (e : slice_get os c ≡ Some p).
-        let made : IsMade letters fs c p = so.origins c p above e in
-        let below : c < length os = get_below os c p e in
-        let below_fs : c < length fs = (let len = so.one_for_each in omega arith) in
-        let earlier = made.earlier in
-        record {
-          earlier = made.earlier;
-          letter = made.letter;
-          made = get_append fs (f ∷ []) c _ made.made ∙ ap (λ (g : List ℕ). Some (compose g (slice_index_or letters p.letter []))) (sym (pushed_below fs f [] p.before (omega arith)));
-        })
+      let made : IsMade letters fs c p = so.origins c p above e in
+      let below : c < length os = get_below os c p e in
+      let below_fs : c < length fs = (let len = so.one_for_each in omega arith) in
+      let earlier = made.earlier in
+      record {
+        earlier = made.earlier;
+        letter = made.letter;
+        made = get_append fs (f ∷ []) c _ made.made ∙ ap (λ (g : List ℕ). Some (compose g (slice_index_or letters p.letter []))) (sym (pushed_below fs f [] p.before (omega arith)));
+      })
       (λ (e : (c ≡ length os) × (o ≡ p)). subst (λ (q : Origin). IsMade letters (fs ++ f ∷ []) c q) e.1
-        (let here : c ≡ length fs = e.0 ∙ so.one_for_each in
-         record {
-          earlier = omega arith;
-          letter = letter;
-          made = ap (slice_get (fs ++ f ∷ [])) here ∙ (get_last fs f ∙ ap Some (is ∙ ap (λ (g : List ℕ). compose g (slice_index_or letters o.letter [])) (sym (pushed_below fs f [] o.before before))));
-        }))
+      (let here : c ≡ length fs = e.0 ∙ so.one_for_each in
+      record {
+        earlier = omega arith;
+        letter = letter;
+        made = ap (slice_get (fs ++ f ∷ [])) here ∙ (get_last fs f ∙ ap Some (is ∙ ap (λ (g : List ℕ). compose g (slice_index_or letters o.letter [])) (sym (pushed_below fs f [] o.before before))));
+      }))
       (get_pushed os o c p at);
 }
 
@@ -89,12 +89,12 @@ module _ (fs : List (List ℕ)) (os : List Origin) (f : List ℕ) (o : Origin) (
   row_more letters from row n is so = record {
     one_for_each = length_pushed row c ∙ (let len = so.one_for_each in omega arith);
     each_letter = λ g h. ⊎_elim
-      (λ (below : g < n). ap (slice_get fs') (pushed_below row c 0 g (let len = so.one_for_each in omega arith)) ∙ numbered_stays (slice_index row g) _ (so.each_letter g below))
-      (λ (above : n ≤ g).
+        (λ (below : g < n). ap (slice_get fs') (pushed_below row c 0 g (let len = so.one_for_each in omega arith)) ∙ numbered_stays (slice_index row g) _ (so.each_letter g below))
+        (λ (above : n ≤ g).
         let here : g ≡ n = omega arith in
         ap (slice_get fs') (pushed_last row c 0 g (let len = so.one_for_each in omega arith))
         ∙ (step.found ∙ ap Some (is ∙ ap (λ (k : ℕ). compose from (slice_index_or letters k [])) (sym here))))
-      (cases_lt g n);
+        (cases_lt g n);
   }
 
   pub explored_more : (d : Automaton) (letters : List (List ℕ)) → AreExplored d letters fs os → IsReached d f → o.before < length fs → o.letter < length letters
@@ -102,7 +102,7 @@ module _ (fs : List (List ℕ)) (os : List Origin) (f : List ℕ) (o : Origin) (
   explored_more d letters so reached before letter is = ⊎_elim
       (λ (e : (fs' ≡ fs) × (os' ≡ os)). both (AreExplored d letters) (sym e.0) (sym e.1) so)
       (λ (e : (fs' ≡ fs ++ f ∷ []) × (os' ≡ os ++ o ∷ [])). both (AreExplored d letters) (sym e.0) (sym e.1)
-        (explored_new d letters fs os f o so (subst (λ (l : List (List ℕ)). length l ≤ 4096) e.0 step.few) reached before letter is))
+      (explored_new d letters fs os f o so (subst (λ (l : List (List ℕ)). length l ≤ 4096) e.0 step.few) reached before letter is))
       step.known_or_new
 
 -- a function and a letter that are read, while the search has grown from old to fs
@@ -142,11 +142,11 @@ module _ (letters fs new : List (List ℕ)) (stays : StaysIn fs new) where
       → AreRows letters new (rows ++ row ∷ [])
   rows_more rows row h so last c r at = ⊎_elim
       (λ (e : slice_get rows c ≡ Some r).
-        let below : c < length rows = get_below rows c r e in
-        subst (λ (f : List ℕ). IsRow letters new f r (length letters)) (sym (stays_at c (omega arith))) (row_stays (slice_index_or fs c []) r (length letters) (so c r e)))
+      let below : c < length rows = get_below rows c r e in
+      subst (λ (f : List ℕ). IsRow letters new f r (length letters)) (sym (stays_at c (omega arith))) (row_stays (slice_index_or fs c []) r (length letters) (so c r e)))
       (λ (e : (c ≡ length rows) × (row ≡ r)).
-        let here : slice_index_or new c [] ≡ slice_index_or fs (length rows) [] = ap (λ (k : ℕ). slice_index_or new k []) e.0 ∙ stays_at (length rows) h in
-        both (λ f l. IsRow letters new f l (length letters)) (sym here) e.1 last)
+      let here : slice_index_or new c [] ≡ slice_index_or fs (length rows) [] = ap (λ (k : ℕ). slice_index_or new k []) e.0 ∙ stays_at (length rows) h in
+      both (λ f l. IsRow letters new f l (length letters)) (sym here) e.1 last)
       (get_pushed rows row c r at)
 
   pub stays_below : (c : ℕ) → c < length fs → c < length new
@@ -174,5 +174,5 @@ pub explored_first : (d : Automaton) (letters fs : List (List ℕ)) (os : List O
 explored_first d letters fs os f o fs' os' c e h is step = ⊎_elim
     (λ (k : (fs' ≡ fs) × (os' ≡ os)). absurd (no_item c f (subst (λ (l : List (List ℕ)). slice_get l c ≡ Some f) (k.0 ∙ e) step.found)))
     (λ (k : (fs' ≡ fs ++ f ∷ []) × (os' ≡ os ++ o ∷ [])).
-      both (AreExplored d letters) (sym (k.0 ∙ (λ i. e i ++ is i ∷ []))) (sym (k.1 ∙ ap (λ (l : List Origin). l ++ o ∷ []) h)) (one_function d letters o))
+    both (AreExplored d letters) (sym (k.0 ∙ (λ i. e i ++ is i ∷ []))) (sym (k.1 ∙ ap (λ (l : List Origin). l ++ o ∷ []) h)) (one_function d letters o))
     step.known_or_new

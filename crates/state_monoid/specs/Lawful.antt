@@ -28,8 +28,8 @@ number_at fs apart c f at =
     let inside : c < length fs = get_below fs c f at in
     let here : slice_index_or fs c [] ≡ f = get_value fs c f [] at in
     position_or_len_is (pointwise nat_eq f) fs c [] (omega arith)
-      (λ k h. not_equal (pointwise nat_eq f (slice_index_or fs k [])) (λ e. apart k c [] h inside (sym (equal_lists f (slice_index_or fs k []) e) ∙ sym here)))
-      (λ _. ap (pointwise nat_eq f) here ∙ (bytes_decides f f).1 refl)
+    (λ k h. not_equal (pointwise nat_eq f (slice_index_or fs k [])) (λ e. apart k c [] h inside (sym (equal_lists f (slice_index_or fs k []) e) ∙ sym here)))
+    (λ _. ap (pointwise nat_eq f) here ∙ (bytes_decides f f).1 refl)
 
 -- a member of a numbering has its place
 contained : (fs : List (List ℕ)) (f : List ℕ) → Contains fs f → (c : ℕ) × (slice_get fs c ≡ Some f)

@@ -19,14 +19,14 @@ reached_length d f r = ap (λ (l : List ℕ). length l) (sym r.2) ∙ length-ima
 pub identity_right : (d : Automaton) (f : List ℕ) → All (λ s. s < d.states) f → compose f (image d []) ≡ f
 identity_right d f below =
     map_same (slice_index (image d [])) (λ s. s) f
-      (λ k e b. ap (λ (l : List ℕ). slice_index l (get_or f k e)) (image_none d) ∙ (get_or-range_with_len 0 d.states (get_or f k e) 0 (below k e b) ∙ (omega arith)))
+    (λ k e b. ap (λ (l : List ℕ). slice_index l (get_or f k e)) (image_none d) ∙ (get_or-range_with_len 0 d.states (get_or f k e) 0 (below k e b) ∙ (omega arith)))
     ∙ map_id f
 
 pub identity_left : (d : Automaton) (f : List ℕ) → length f ≡ d.states → compose (image d []) f ≡ f
 identity_left d f len =
     let count : length (compose (image d []) f) ≡ length f = length-map (image d []) (slice_index f) ∙ (length-image d [] ∙ sym len) in
     ext_get_or 0 (compose (image d []) f) f count
-      (λ i h. get_or-map (slice_index f) (image d []) i 0 0 (let size = length-image d [] in omega arith) ∙ ap (slice_index f) (image_at d [] i 0 (omega arith)))
+    (λ i h. get_or-map (slice_index f) (image d []) i 0 0 (let size = length-image d [] in omega arith) ∙ ap (slice_index f) (image_at d [] i 0 (omega arith)))
 
 module _ (d : Automaton) (valid : IsAutomaton d) where
   pub reached_below : (f : List ℕ) → IsReached d f → All (λ s. s < d.states) f

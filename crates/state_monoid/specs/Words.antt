@@ -55,5 +55,5 @@ module _ (d : Automaton) where
     pub image_append : (u v : List ℕ) → IsWord u → image d (u ++ v) ≡ compose (image d u) (image d v)
     image_append u v w =
         map_same (λ s. run d s (u ++ v)) (λ s. slice_index (image d v) (run d s u)) (range_with_len 0 d.states)
-          (λ k e h. run_append _ u v ∙ sym (image_at v (run d _ u) 0 (run_below _ u (states_below k e h) w)))
+        (λ k e h. run_append _ u v ∙ sym (image_at v (run d _ u) 0 (run_below _ u (states_below k e h) w)))
         ∙ sym (map_map (slice_index (image d v)) (λ s. run d s u) (range_with_len 0 d.states))

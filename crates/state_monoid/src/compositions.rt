@@ -71,6 +71,13 @@ impl Compositions {
         })
     }
 
+    /// The automaton.
+    pub fn dfa(&self) -> &Dfa
+        ensures { result.now ≡ self.now.automaton }
+    {
+        &self.dfa
+    }
+
     /// The number of functions, at most 4,096.
     pub fn count(&self) -> u32
         ensures value { result ≡ length self.now.functions }

@@ -1,5 +1,5 @@
 //! Automata.
-ghost use Rattle.std.specs.Prelude.{◌≡◌, ◌<◌, ◌≤◌, IfOk};
+ghost use Rattle.std.specs.Prelude.{◌≡◌, ◌<◌, ◌≤◌, ◌↔◌, IsTrue, IfOk};
 ghost use Rattle.state_monoid.specs.Automaton.{IsAutomaton, step};
 ghost use Rattle.state_monoid.specs.Image.{image};
 
@@ -25,6 +25,15 @@ impl Model for Dfa {
 }
 
 impl Dfa {
+    /// Whether a table is that of an automaton with this many states.
+    pub fn is_table(states: u32, table: &[u8]) -> bool
+        ensures { IsTrue result ↔ IsAutomaton (record { states = states; table = table.now }) }
+    {
+        (1..=64).contains(&states)
+            && table.len() == 256 * states as usize
+            && table.iter().all(|next| (*next as u32) < states)
+    }
+
     /// The automaton with this many states, whose table has at `256 * state + byte` the state that follows.
     pub fn new(states: u32, table: Vec<u8>) -> Dfa
         requires { IsAutomaton (record { states = states; table = table.items }) }

@@ -21,11 +21,7 @@ fn column(alloc: Global, rows: &[Vec<u16>], letter: usize) -> Result<Vec<u16>, A
 }
 
 // The columns of all letters.
-fn columns(
-    alloc: Global,
-    rows: &[Vec<u16>],
-    letters: usize,
-) -> Result<Vec<Vec<u16>>, AllocError>
+fn columns(alloc: Global, rows: &[Vec<u16>], letters: usize) -> Result<Vec<Vec<u16>>, AllocError>
     requires { All (λ row. length row.items ≡ letters) rows.now }
     ensures { IfOk result (λ v. AreColumns (map (λ row. row.items) rows.now) letters (map (λ column. column.items) v.items)) }
 {
@@ -52,7 +48,10 @@ pub(crate) fn followed(alloc: Global, codes: &[u16], column: &[u16]) -> Result<V
     requires { All (λ code. code < length column.now) codes.now }
     ensures { IfOk result (λ v. v.items ≡ map (slice_index column.now) codes.now) }
 {
-    codes.iter().map(|code| column[*code as usize]).collect(alloc)
+    codes
+        .iter()
+        .map(|code| column[*code as usize])
+        .collect(alloc)
 }
 
 // The joins with a function are those with an earlier one, and then a letter.
@@ -86,13 +85,7 @@ fn join_next(
     ensures { OnOk result (joins.new.items ≡ joins.old.items ++ map (slice_index (slice_index_or (map (λ column. column.items) columns.now) origin.letter [])) (take count (drop (origin.before * count) joins.old.items))) }
 {
     let column = &columns[origin.letter as usize];
-    append(
-        alloc,
-        joins,
-        origin.before as usize * count,
-        count,
-        column,
-    )
+    append(alloc, joins, origin.before as usize * count, count, column)
 }
 
 /// For each function, one behind the other, the numbers of all functions joined with it from the right.

@@ -14,7 +14,8 @@ mod states;
 pub use compositions::Compositions;
 pub use dfa::Dfa;
 pub use fault::BuildFault;
-pub use laws::{
-    composition_is_associative, few_or_too_many, prefixes_are_runs, words_compose,
-};
+pub use laws::{composition_is_associative, few_or_too_many, prefixes_are_runs, words_compose};
 pub use states::States;
+
+#[cfg(test)]
+mod tests;

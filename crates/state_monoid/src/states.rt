@@ -1,12 +1,12 @@
 //! Functions from states to states.
-ghost use Rattle.std.specs.Prelude.{◌≡◌, ◌<◌, ◌≤◌, [], ◌∷◌, length, map, All, nat_eq, slice_index};
+ghost use Rattle.std.specs.Prelude.{◌≡◌, ◌<◌, [], ◌∷◌, length, map, All, nat_eq, slice_index};
 ghost use Rattle.std.specs.Cmp.{partial_equiv_from_equiv};
 ghost use Rattle.std.specs.Cmp.Lexicographic.{pointwise, nat_list_eq_equiv};
 ghost use Rattle.std.specs.Cmp.Rules.{hashing};
 ghost use Rattle.std.proofs.Common.{rules};
 ghost use Rattle.std.specs.List.{range_with_len};
 ghost use Rattle.state_monoid.specs.Automaton.{step};
-ghost use Rattle.state_monoid.specs.Image.{compose, image};
+ghost use Rattle.state_monoid.specs.Image.{IsFunction, compose, image};
 
 use crate::dfa::Dfa;
 use std::hash::{Hash, Hasher};
@@ -37,6 +37,7 @@ impl Model for States {
 impl States {
     /// Where the empty word ends: each state leads to itself.
     pub fn identity(dfa: &Dfa) -> States
+        ensures word { result ≡ image dfa.now [] }
         ensures value { result ≡ range_with_len 0 dfa.now.states }
     {
         let states = dfa.states() as usize;
@@ -45,6 +46,14 @@ impl States {
             ends[state] = state as u8;
         }
         States { ends, states }
+    }
+
+    /// The number of states.
+    pub fn count(&self) -> u32
+        ensures value { result ≡ length self.now }
+        ensures function { IsFunction self.now }
+    {
+        self.states as u32
     }
 
     /// This function, and then another of the same automaton.

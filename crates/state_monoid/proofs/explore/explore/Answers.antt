@@ -33,10 +33,10 @@ loop-alloc-preserved c =
     let before : c.len-in-loop-alloc-2.result ≡ length rows = omega (arith, c.loop-alloc.rows.ok, len, c.len-in-loop-alloc-2.ensures) in
     let inside : length rows < length fs = omega (arith, c.loop-alloc.rows.ok, len, c.len.ensures, c.len-in-loop-alloc.ensures.len) in
     let last : IsRow letters new (slice_index_or fs (length rows) []) c.in_ok-next.next.items (length letters) =
-      subst (λ (n : ℕ). IsRow letters new (slice_index_or fs n []) c.in_ok-next.next.items (length letters)) before next.row in
+    subst (λ (n : ℕ). IsRow letters new (slice_index_or fs n []) c.in_ok-next.next.items (length letters)) before next.row in
     let more : AreRows letters new (rows ++ c.in_ok-next.next.items ∷ []) = rows_more letters fs new next.stays rows c.in_ok-next.next.items inside so.rows last in
     let all : map (λ row. row.items) c.push.new.self.items ≡ rows ++ c.in_ok-next.next.items ∷ [] =
-      ap (λ (l : List (Vec ℕ Global)). map (λ row. row.items) l) pushed ∙ map-append (λ (row : Vec ℕ Global). row.items) c.loop-alloc.rows.items (c.in_ok-next.next ∷ []) in
+    ap (λ (l : List (Vec ℕ Global)). map (λ row. row.items) l) pushed ∙ map-append (λ (row : Vec ℕ Global). row.items) c.loop-alloc.rows.items (c.in_ok-next.next ∷ []) in
     record {
       explored = next.explored;
       rows = subst (λ (l : List (List ℕ)). AreRows letters new l) (sym all) more;

@@ -6,7 +6,7 @@ abbrev pub invariant-loop-alloc : goal.invariant-loop-alloc
 invariant-loop-alloc l = record {
   explored : AreExplored l.letters.dfa l.letters.functions.keys l.functions.keys l.origins.items;
   rows : AreRows l.letters.functions.keys l.functions.keys (map (λ row. row.items) l.rows.items);
-  few : length l.rows.items ≤ length l.functions.keys
+  few : length l.rows.items ≤ length l.functions.keys;
 }
 
 abbrev pub decreases-loop-alloc : goal.decreases-loop-alloc

@@ -17,7 +17,7 @@ columns-requires c k d h =
     let letters : List (List ℕ) = c.args.letters.now.functions.keys in
     let fs : List (List ℕ) = c.args.explored.now.functions.keys in
     let all : All (λ row. length row.items ≡ length letters) c.deref.result.now =
-      subst (λ (l : List (Vec ℕ Global)). All (λ row. length row.items ≡ length letters) l) (sym c.deref.ensures.value) (rows_length items_of letters fs c.args.explored.now.rows.items c.requires.rows) in
+    subst (λ (l : List (Vec ℕ Global)). All (λ row. length row.items ≡ length letters) l) (sym c.deref.ensures.value) (rows_length items_of letters fs c.args.explored.now.rows.items c.requires.rows) in
     all k d h ∙ sym c.len.ensures.len
 
 pub loop-code-init : goal.loop-code-init
@@ -40,7 +40,7 @@ join_next-requires c =
     let len = c.requires.explored.one_for_each in
     let at : slice_get os c.loop-code.code ≡ Some o = item_at os os c.loop-code.code o c.index.ensures refl (omega (arith, len, count)) in
     let step : Joins letters fs columns c.loop-code.code o c.loop-code.joins.items = join_step c.args.letters.now.dfa c.requires.letters.valid letters fs os rows columns c.loop-code.code o c.loop-code.joins.items
-      c.requires.explored c.requires.rows (length-map c.args.explored.now.rows.items items_of ∙ c.requires.all) cs c.loop-code.invariant (omega arith) at in
+    c.requires.explored c.requires.rows (length-map c.args.explored.now.rows.items items_of ∙ c.requires.all) cs c.loop-code.invariant (omega arith) at in
     record {
       letter = let same = ap (λ (l : List (Vec ℕ Global)). length l) c.deref-in-loop-code.ensures.value in let mapped = length-map c.in_ok-columns.columns.items items_of in let h = step.letter in omega arith;
       codes = subst (λ (l : List (Vec ℕ Global)). All (λ code. code < length (slice_index_or (map items_of l) o.letter [])) c.loop-code.joins.items) (sym c.deref-in-loop-code.ensures.value) step.codes;
@@ -60,7 +60,7 @@ loop-code-preserved c =
     let len = c.requires.explored.one_for_each in
     let at : slice_get os c.loop-code.code ≡ Some o = item_at os os c.loop-code.code o c.index.ensures refl (omega (arith, len, count)) in
     let step : Joins letters fs columns c.loop-code.code o c.loop-code.joins.items = join_step c.args.letters.now.dfa c.requires.letters.valid letters fs os rows columns c.loop-code.code o c.loop-code.joins.items
-      c.requires.explored c.requires.rows (length-map c.args.explored.now.rows.items items_of ∙ c.requires.all) cs c.loop-code.invariant (omega arith) at in
+    c.requires.explored c.requires.rows (length-map c.args.explored.now.rows.items items_of ∙ c.requires.all) cs c.loop-code.invariant (omega arith) at in
     let is : c.join_next.new.joins.items ≡ c.loop-code.joins.items ++ map (slice_index (slice_index_or columns o.letter [])) (take (length fs) (drop (o.before * length fs) c.loop-code.joins.items)) =
-      both (λ r n. c.join_next.new.joins.items ≡ c.loop-code.joins.items ++ map (slice_index (slice_index_or (map items_of r) o.letter [])) (take n (drop (o.before * n) c.loop-code.joins.items))) c.deref-in-loop-code.ensures.value count c.in_ok-join_next.ensures in
+    both (λ r n. c.join_next.new.joins.items ≡ c.loop-code.joins.items ++ map (slice_index (slice_index_or (map items_of r) o.letter [])) (take n (drop (o.before * n) c.loop-code.joins.items))) c.deref-in-loop-code.ensures.value count c.in_ok-join_next.ensures in
     subst (λ (l : List ℕ). AreJoined fs (c.loop-code.code + 1) l) (sym is) step.more

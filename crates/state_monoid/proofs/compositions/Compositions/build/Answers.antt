@@ -24,7 +24,7 @@ followed-requires c =
     let some : 0 < length c.in_ok-explored.explored.rows.items = (let below = get_below fs 0 _ found.explored.first in let same = found.all in omega arith) in
     let first : c.deref-2.result.now ≡ slice_index_or rows 0 [] = c.deref-2.ensures.value ∙ column_read items_of c.in_ok-explored.explored.rows.items 0 c.index.result.now c.index.ensures some in
     both (λ codes row. All (λ code. code < length row) codes) (sym c.deref.ensures.value) (sym first)
-      (letters_below d letters fs c.in_ok-explored.explored.origins.items rows of_byte c.in_ok-letters.ensures.letters found.explored found.rows all)
+    (letters_below d letters fs c.in_ok-explored.explored.origins.items rows of_byte c.in_ok-letters.ensures.letters found.explored found.rows all)
 
 pub invariant_of-result : goal.invariant_of-result
 invariant_of-result c =
@@ -34,9 +34,13 @@ invariant_of-result c =
     let fs : List (List ℕ) = c.in_ok-explored.explored.functions.keys in
     let rows : List (List ℕ) = map items_of c.in_ok-explored.explored.rows.items in
     let found = c.in_ok-explored.ensures in
-    let all : length rows ≡ length fs = length-map c.in_ok-explored.explored.rows.items items_of ∙ found.all in
-    (c.in_ok-letters.ensures.letters.valid, (found.explored.few,
-      (∣ all_numbered d letters fs c.in_ok-explored.explored.origins.items rows of_byte c.in_ok-letters.ensures.letters found.explored found.rows all found.distinct ∣₁, tt)))
+    let all : length rows ≡ length fs = length-map c.in_ok-explored.explored.rows.items items_of ∙ found.all in (
+      c.in_ok-letters.ensures.letters.valid,
+      (
+        found.explored.few,
+        (∣ all_numbered d letters fs c.in_ok-explored.explored.origins.items rows of_byte c.in_ok-letters.ensures.letters found.explored found.rows all found.distinct ∣₁, tt),
+      ),
+    )
 
 pub invariant_of-result-2 : goal.invariant_of-result-2
 invariant_of-result-2 c =
@@ -50,9 +54,9 @@ invariant_of-result-2 c =
     let some : 0 < length c.in_ok-explored.explored.rows.items = (let below = get_below fs 0 _ found.explored.first in let same = found.all in omega arith) in
     let first : c.deref-2.result.now ≡ slice_index_or rows 0 [] = c.deref-2.ensures.value ∙ column_read items_of c.in_ok-explored.explored.rows.items 0 c.index.result.now c.index.ensures some in
     let is : c.in_ok-bytes.bytes.items ≡ map (slice_index (slice_index_or rows 0 [])) of_byte =
-      both (λ row codes. c.in_ok-bytes.bytes.items ≡ map (slice_index row) codes) first c.deref.ensures.value c.in_ok-bytes.ensures in
+    both (λ row codes. c.in_ok-bytes.bytes.items ≡ map (slice_index row) codes) first c.deref.ensures.value c.in_ok-bytes.ensures in
     byte_numbers d letters fs c.in_ok-explored.explored.origins.items rows of_byte c.in_ok-letters.ensures.letters found.explored found.rows all
-      c.in_ok-bytes.bytes.items c.in_ok-joins.joins.items is c.in_ok-joins.ensures
+    c.in_ok-bytes.bytes.items c.in_ok-joins.joins.items is c.in_ok-joins.ensures
 
 pub returns-clause-numbering : goal.returns-clause-numbering
 returns-clause-numbering c =
@@ -64,4 +68,4 @@ returns-clause-numbering c =
     let found = c.in_ok-explored.ensures in
     let all : length rows ≡ length fs = length-map c.in_ok-explored.explored.rows.items items_of ∙ found.all in
     subst (λ (a : Automaton). IsNumbering a fs) c.in_ok-letters.ensures.automaton
-      (all_numbered d letters fs c.in_ok-explored.explored.origins.items rows of_byte c.in_ok-letters.ensures.letters found.explored found.rows all found.distinct)
+    (all_numbered d letters fs c.in_ok-explored.explored.origins.items rows of_byte c.in_ok-letters.ensures.letters found.explored found.rows all found.distinct)

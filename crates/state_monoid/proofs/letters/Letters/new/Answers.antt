@@ -12,8 +12,8 @@ loop-byte-preserved c =
     let pushed : c.push.new.self.items ≡ c.loop-byte.of_byte.items ++ c.in_ok-letter.letter ∷ [] = c.in_ok-push.ensures.items in
     let stored = c.in_ok-letter.ensures.stored in
     subst (λ (l : List ℕ). AreLetters c.args.dfa.now (n + 1) c.insert_full.new.self.keys l) (sym pushed)
-      (letters_step c.args.dfa.now n c.loop-byte.functions.keys c.loop-byte.of_byte.items c.insert_full.new.self.keys c.in_ok-letter.letter c.of_bytes.result stored.0
-        c.loop-byte.invariant (omega arith) is c.in_ok-letter.ensures.keys stored.1 stored.2)
+    (letters_step c.args.dfa.now n c.loop-byte.functions.keys c.loop-byte.of_byte.items c.insert_full.new.self.keys c.in_ok-letter.letter c.of_bytes.result stored.0
+    c.loop-byte.invariant (omega arith) is c.in_ok-letter.ensures.keys stored.1 stored.2)
 
 pub returns-clause-letters : goal.returns-clause-letters
 returns-clause-letters c =
