@@ -1,0 +1,6 @@
+pub mod Exploration
+pub mod Searching
+pub mod Joining
+pub mod Complete
+pub mod Counting
+pub mod Prefixes

@@ -1,0 +1,10 @@
+pub mod Automaton
+pub mod Image
+pub mod Numbering
+pub mod Functions
+pub mod Words
+pub mod Places
+pub mod Reached
+pub mod Exploring
+pub mod Explored
+pub mod Lawful
