@@ -60,12 +60,7 @@ impl Tables {
         let lookbacks = lookbacks(alloc, grammar, nullable.as_slice())?;
         match least_lookback_conflict(alloc, grammar, lookbacks.as_slice())? {
             Some(conflict) => Err(lookback_fault(conflict)),
-            None => Ok(tables_by(
-                alloc,
-                grammar,
-                nullable.as_slice(),
-                lookbacks.as_slice(),
-            )?),
+            None => Ok(tables_by(alloc, grammar, nullable.as_slice(), lookbacks.as_slice())?),
         }
     }
 }

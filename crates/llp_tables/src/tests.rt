@@ -31,10 +31,7 @@ fn least_faults(rt: HostRuntime) -> Result<(), Fail> {
             b"left recursive A",
         ),
         (b"S -> a\nS -> a b", b"conflict S on a: productions 1 2"),
-        (
-            b"S -> A\nS ->\nA ->",
-            b"conflict S on END: productions 1 2",
-        ),
+        (b"S -> A\nS ->\nA ->", b"conflict S on END: productions 1 2"),
         (
             b"S -> A a\nA -> b\nA -> a\nA ->",
             b"conflict A on a: productions 3 4",
@@ -55,10 +52,7 @@ fn least_faults(rt: HostRuntime) -> Result<(), Fail> {
             b"S -> x a\nS -> y a N\nN -> z\nN ->",
             b"conflict a END: END | N END",
         ),
-        (
-            b"S -> x a z\nS -> y a N\nN -> z",
-            b"conflict a z: z | N",
-        ),
+        (b"S -> x a z\nS -> y a N\nN -> z", b"conflict a z: z | N"),
     ];
     for (text, line) in rows {
         match Grammar::read(rt.alloc(), text) {

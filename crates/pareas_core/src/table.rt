@@ -12,7 +12,9 @@ ghost use Rattle.pareas_core.specs.Output.{IsDueOfGrammar, counted, noted, sizes
 
 use crate::response::Response;
 use crate::status::Status;
-use grammar_file::{Grammar, GrammarFault, files_spell_one_answer, spelled_grammars_are_well_formed};
+use grammar_file::{
+    Grammar, GrammarFault, files_spell_one_answer, spelled_grammars_are_well_formed,
+};
 use llp_tables::{TableFault, Tables, grammars_have_one_answer};
 use std::alloc::{AllocError, Global};
 
@@ -67,9 +69,24 @@ fn lines(alloc: Global, grammar: &Grammar, entries: u64) -> Result<Vec<u8>, Allo
     ensures { IfOk result (λ text. text.items ≡ sizes grammar.now entries) }
 {
     let mut text = Vec::new(alloc);
-    push_count(alloc, &mut text, b"terminals", u64::from(grammar.terminal_count()))?;
-    push_count(alloc, &mut text, b"nonterminals", u64::from(grammar.nonterminal_count()))?;
-    push_count(alloc, &mut text, b"productions", u64::from(grammar.production_count()))?;
+    push_count(
+        alloc,
+        &mut text,
+        b"terminals",
+        u64::from(grammar.terminal_count()),
+    )?;
+    push_count(
+        alloc,
+        &mut text,
+        b"nonterminals",
+        u64::from(grammar.nonterminal_count()),
+    )?;
+    push_count(
+        alloc,
+        &mut text,
+        b"productions",
+        u64::from(grammar.production_count()),
+    )?;
     push_count(alloc, &mut text, b"entries", entries)?;
     Ok(text)
 }

@@ -379,10 +379,7 @@ fn grammars_have_conflicts(rt: HostRuntime) -> Result<(), Fail> {
             b"S -> p E q\nS -> c E T q\nE -> i\nT -> d E T\nT ->\n",
             b"conflict i q: q | T q\n",
         ),
-        (
-            b"S -> a\nS -> a b\n",
-            b"conflict S on a: productions 1 2\n",
-        ),
+        (b"S -> a\nS -> a b\n", b"conflict S on a: productions 1 2\n"),
         (b"S -> S a\nS -> b\n", b"left recursive S\n"),
         (b"S -> T S a\nS -> b\nT ->\n", b"left recursive S\n"),
         (
