@@ -1,7 +1,6 @@
 // The tables of a grammar, as a value.
 
-ghost use Rattle.std.specs.Prelude.{◌≡◌, ◌<◌, ◌≤◌, ◌*◌, ◌-◌, ℕ, ◌∷◌, [], length, map, take, drop, Some, None, IfOk, MatchOption, slice_get, slice_index_or, is_some, count_by};
-ghost use Rattle.grammar_file.specs.declared.symbols.Symbol.TheVariants.{Nonterminal as AnyNonterminal};
+ghost use Rattle.std.specs.Prelude.{◌≡◌, ◌≤◌, ◌-◌, length, map, take, drop, Some, None, MatchOption, slice_index_or, is_some, count_by};
 ghost use Rattle.std.specs.List.{AllByRecursion};
 ghost use Rattle.llp_tables.specs.EntryTable.{entry_of};
 ghost use Rattle.llp_tables.specs.PieceRows.{entry_in, IsWithin};
