@@ -1,6 +1,6 @@
 // The tables of a grammar from what is closed behind each terminal.
 
-ghost use Rattle.std.specs.Prelude.{◌≡◌, ◌+◌, ◌*◌, ◌<◌, ◌∷◌, [], length, IfOk, OnOk};
+ghost use Rattle.std.specs.Prelude.{◌≡◌, ◌*◌, ◌≤◌, ◌∷◌, [], length, vec_capacity, IfOk, OnOk};
 ghost use Rattle.grammar_file.specs.declared.symbols.Symbol.TheVariants.{Nonterminal as AnyNonterminal};
 ghost use Rattle.grammar_file.specs.Grammar.{IsWellFormed};
 ghost use Rattle.grammar_file.specs.Marks.{AreMarksOf};
@@ -83,6 +83,8 @@ pub(crate) fn length_of_rows(
 fn no_rows(alloc: Global, pieces: usize, productions: u64) -> Result<PieceRows, AllocError>
     ensures pieces { IfOk result (λ rows. rows.pieces.items ≡ []) }
     ensures productions { IfOk result (λ rows. rows.productions.items ≡ []) }
+    ensures room_for_pieces { IfOk result (λ rows. pieces ≤ vec_capacity rows.pieces) }
+    ensures room_for_productions { IfOk result (λ rows. productions ≤ vec_capacity rows.productions) }
 {
     let productions = Vec::with_capacity(alloc, productions as usize)?;
     let pieces = Vec::with_capacity(alloc, pieces)?;

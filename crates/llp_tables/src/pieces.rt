@@ -1,6 +1,6 @@
 // One piece: the productions that lead from what a pair of terminals closes to the second one, and what they open.
 
-ghost use Rattle.std.specs.Prelude.{◌≡◌, ℕ, ◌++◌, ◌∷◌, [], Some, None, IfOk, OnOk, MatchOption, slice_index_or};
+ghost use Rattle.std.specs.Prelude.{◌≡◌, ℕ, ◌++◌, ◌∷◌, Some, None, IfOk, OnOk, MatchOption, slice_index_or};
 ghost use Rattle.grammar_file.specs.declared.symbols.Symbol.TheVariants.{Nonterminal as AnyNonterminal};
 ghost use Rattle.grammar_file.specs.Grammar.{Production as AnyProduction, production};
 ghost use Rattle.llp_tables.specs.Predict.{IsLl1};

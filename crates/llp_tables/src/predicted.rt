@@ -1,8 +1,8 @@
 // The productions that a terminal predicts.
 
-ghost use Rattle.std.specs.Prelude.{◌≡◌, ◌<◌, ◌+◌, ℕ, ◌∷◌, [], length, Some, None, IfOk, slice_index_or};
+ghost use Rattle.std.specs.Prelude.{◌≡◌, ◌<◌, ◌+◌, ◌∷◌, [], length, Some, None, IfOk, slice_index_or};
 ghost use Rattle.grammar_file.specs.declared.symbols.Symbol.TheVariants.{Nonterminal as AnyNonterminal};
-ghost use Rattle.grammar_file.specs.Grammar.{IsWellFormed, Production as AnyProduction, production};
+ghost use Rattle.grammar_file.specs.Grammar.{Production as AnyProduction, production};
 ghost use Rattle.grammar_file.specs.Marks.{AreMarksOf};
 ghost use Rattle.llp_tables.specs.Predict.{IsNullable, IsFirst};
 ghost use Rattle.llp_tables.specs.Conflicts.{AreSets};

@@ -1,6 +1,6 @@
 // The pieces of all pairs, a row for each terminal that comes next.
 
-ghost use Rattle.std.specs.Prelude.{◌≡◌, ◌+◌, ◌*◌, ◌<◌, ℕ, List, ◌∷◌, [], length, Some, IfOk, OnOk, MatchOption, slice_get};
+ghost use Rattle.std.specs.Prelude.{◌≡◌, ◌+◌, ◌*◌, ◌<◌, ℕ, List, ◌∷◌, [], length, IfOk, OnOk, MatchOption};
 ghost use Rattle.grammar_file.specs.declared.symbols.Symbol.{Symbol as AnySymbol};
 ghost use Rattle.grammar_file.specs.declared.symbols.Symbol.TheVariants.{Terminal as AnyTerminal, Nonterminal as AnyNonterminal};
 ghost use Rattle.grammar_file.specs.Grammar.{IsWellFormed};
