@@ -8,7 +8,7 @@ use Rattle.word_monoid.proofs.Folds.{get_below, all_at, all_first, all_rest}
 use Rattle.state_monoid.specs.Automaton.{Automaton, IsAutomaton, IsWord}
 use Rattle.state_monoid.specs.Image.{compose, image, IsReached, IsNumbering}
 use Rattle.state_monoid.specs.declared.explore.Origin.{Origin}
-use Rattle.state_monoid.specs.Exploring.{AreLetters}
+use Rattle.state_monoid.specs.Letters.{AreLetters}
 use Rattle.state_monoid.specs.Explored.{AreExplored, IsRow, AreRows, AreJoined, AreTables}
 use Rattle.state_monoid.specs.Places.{value_get, get_value}
 use Rattle.state_monoid.specs.Words.{image_append}

@@ -7,7 +7,7 @@ use Rattle.indexmap.specs.IndexSet.{insert_key}
 use Rattle.word_monoid.proofs.Folds.{get_below}
 use Rattle.state_monoid.specs.Automaton.{Automaton, IsAutomaton, IsWord}
 use Rattle.state_monoid.specs.Image.{IsFunction, compose, image, IsReached, IsNumbering, HasMoreThan}
-use Rattle.state_monoid.specs.Exploring.{IsLetter, AreLetters}
+use Rattle.state_monoid.specs.Letters.{IsLetter, AreLetters}
 use Rattle.state_monoid.specs.Places.{equal_lists, get_append, get_last, get_pushed, all_pushed, length_pushed, pushed_below, pushed_last, value_get, get_value, inserted}
 
 pub letters_step : (d : Automaton) (n : ℕ) (letters : List (List ℕ)) (of_byte : List ℕ) (new : List (List ℕ)) (r : ℕ) (f k : List ℕ)

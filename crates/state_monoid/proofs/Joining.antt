@@ -11,7 +11,7 @@ use Rattle.word_monoid.proofs.Folds.{get_below, all_at}
 use Rattle.state_monoid.specs.Automaton.{Automaton, IsAutomaton}
 use Rattle.state_monoid.specs.Image.{IsFunction, compose, image, IsReached}
 use Rattle.state_monoid.specs.declared.explore.Origin.{Origin}
-use Rattle.state_monoid.specs.Exploring.{IsLetter, AreLetters}
+use Rattle.state_monoid.specs.Letters.{IsLetter, AreLetters}
 use Rattle.state_monoid.specs.Explored.{IsMade, AreExplored, IsRow, AreRows, AreColumns, AreJoined}
 use Rattle.state_monoid.specs.Functions.{map_map, map_id, map_same}
 use Rattle.state_monoid.specs.Places.{value_get, get_value, length_pushed, pushed_below, pushed_last}

@@ -2,15 +2,17 @@
 use Rattle.std.proofs.Common.{◌≡◌, ℕ, zero, suc, ◌+◌, ◌<◌, ◌≤◌, List, [], ◌∷◌, ◌++◌, length, get_or, take, map, All, fold, Some, slice_get, refl, sym, ap, subst, ◌∙◌, arith}
 use Rattle.std.proofs.Math.Logic.{∥∥₁_elim}
 use Rattle.std.specs.Prelude.{slice_index}
-use Rattle.std.specs.Coded.{Coded-set, coded_option, coded_list, coded_ℕ}
+use Rattle.std.specs.Coded.{le_prop, Coded-set, coded_option, coded_list, coded_ℕ}
 use Rattle.std.proofs.lemmas.List.{append_assoc, append-nil, take-map}
 use Rattle.std.proofs.lemmas.List.Elements.{All-append, All-take}
-use Rattle.word_monoid.specs.Folds.{prefix_of}
-use Rattle.word_monoid.proofs.Folds.{all_first, all_rest}
+use Rattle.std.proofs.lemmas.Bool.{lt-ltb}
+use Rattle.word_monoid.specs.Monoid.{IsItem}
+use Rattle.word_monoid.specs.Folds.{prefix_of, prefixes}
+use Rattle.word_monoid.proofs.Folds.{get_below, all_first, all_rest, length-prefixes, prefixes_at}
 use Rattle.state_monoid.specs.Automaton.{Automaton, IsAutomaton, IsWord, run}
 use Rattle.state_monoid.specs.Image.{compose, image, IsReached, IsNumbering}
 use Rattle.state_monoid.specs.Numbering.{Numbering, function_of, number_of, byte_number, composition}
-use Rattle.state_monoid.specs.Places.{get_value}
+use Rattle.state_monoid.specs.Places.{get_value, some_inj}
 use Rattle.state_monoid.specs.Words.{image_append, image_at}
 use Rattle.state_monoid.specs.Lawful.{member_at}
 use Rattle.state_monoid.proofs.Searching.{one_byte}
@@ -48,11 +50,27 @@ module _ (m : Numbering) (all : IsNumbering m.automaton m.functions) where
 same_prop : (fs : List (List ℕ)) (c : ℕ) (f : List ℕ) → IsProp (slice_get fs c ≡ Some f)
 same_prop fs c f = Coded-set (coded_option (coded_list coded_ℕ)) (slice_get fs c) (Some f)
 
-pub prefix_function : (m : Numbering) (word : List ℕ) → IsWord word → (i : ℕ) → slice_get m.functions (prefix_of (composition m) (map (byte_number m) word) i) ≡ Some (image m.automaton (take i word))
-prefix_function m word w i = ∥∥₁_elim m.numbers_all (same_prop m.functions (prefix_of (composition m) (map (byte_number m) word) i) (image m.automaton (take i word))) (λ all. numbered_prefix m all word w i)
+-- the number at a place of the prefixes is the prefix there
+prefix_at : (m : Numbering) (word : List ℕ) (i c : ℕ) → slice_get (prefixes (composition m) (map (byte_number m) word)) i ≡ Some c → prefix_of (composition m) (map (byte_number m) word) i ≡ c
+prefix_at m word i c at =
+    let below = get_below (prefixes (composition m) (map (byte_number m) word)) i c at in
+    let len = length-prefixes (composition m) (map (byte_number m) word) in
+    let is = prefixes_at (composition m) (map (byte_number m) word) i (omega arith) in
+    some_inj (prefix_of (composition m) (map (byte_number m) word) i) c (sym is ∙ at)
 
-pub prefix_state : (m : Numbering) (word : List ℕ) → IsWord word → (i s : ℕ) → s < m.automaton.states
-    → slice_index (function_of m (prefix_of (composition m) (map (byte_number m) word) i)) s ≡ run m.automaton s (take i word)
-prefix_state m word w i s h =
-    let p : ℕ = prefix_of (composition m) (map (byte_number m) word) i in
-    ap (λ (f : List ℕ). slice_index f s) (get_value m.functions p (image m.automaton (take i word)) [] (prefix_function m word w i)) ∙ image_at m.automaton (take i word) s 0 h
+pub prefix_function : (m : Numbering) (word : List ℕ) → IsWord word → (i c : ℕ) → slice_get (prefixes (composition m) (map (byte_number m) word)) i ≡ Some c
+    → slice_get m.functions c ≡ Some (image m.automaton (take i word))
+prefix_function m word w i c at =
+    ap (slice_get m.functions) (sym (prefix_at m word i c at))
+    ∙ ∥∥₁_elim m.numbers_all (same_prop m.functions (prefix_of (composition m) (map (byte_number m) word) i) (image m.automaton (take i word))) (λ all. numbered_prefix m all word w i)
+
+pub prefix_state : (m : Numbering) (word : List ℕ) → IsWord word → (i c s : ℕ) → slice_get (prefixes (composition m) (map (byte_number m) word)) i ≡ Some c → s < m.automaton.states
+    → slice_index (function_of m c) s ≡ run m.automaton s (take i word)
+prefix_state m word w i c s at h =
+    ap (λ (f : List ℕ). slice_index f s) (get_value m.functions c (image m.automaton (take i word)) [] (prefix_function m word w i c at)) ∙ image_at m.automaton (take i word) s 0 h
+
+byte_below : (m : Numbering) → IsNumbering m.automaton m.functions → (b : ℕ) → b < 256 → byte_number m b < length m.functions
+byte_below m all b h = get_below m.functions (byte_number m b) (image m.automaton (b ∷ [])) (member_at m all (image m.automaton (b ∷ [])) (b ∷ [], one_byte m.automaton b h, refl))
+
+pub byte_item : (m : Numbering) (b : ℕ) → b < 256 → IsItem (composition m) (byte_number m b)
+byte_item m b h = lt-ltb (byte_number m b) (length m.functions) (∥∥₁_elim m.numbers_all le_prop (λ all. byte_below m all b h))

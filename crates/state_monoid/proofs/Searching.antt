@@ -12,7 +12,7 @@ use Rattle.state_monoid.specs.Image.{IsFunction, compose, image, IsReached, IsNu
 use Rattle.state_monoid.specs.declared.explore.Origin.{Origin}
 use Rattle.state_monoid.specs.declared.fault.BuildFault.{BuildFault}
 use Rattle.std.specs.Prelude.{Result, Err}
-use Rattle.state_monoid.specs.Exploring.{IsLetter, AreLetters}
+use Rattle.state_monoid.specs.Letters.{IsLetter, AreLetters}
 use Rattle.state_monoid.specs.Explored.{StaysIn, IsNumbered, IsMade, AreExplored, IsRow, AreRows}
 use Rattle.state_monoid.specs.Places.{get_append, get_last, get_pushed, all_pushed, length_pushed, pushed_below, pushed_last, value_get, get_value, some_inj, no_item}
 use Rattle.state_monoid.specs.Words.{length-image, image_append}

@@ -5,6 +5,6 @@ pub mod Functions
 pub mod Words
 pub mod Places
 pub mod Reached
-pub mod Exploring
+pub mod Letters
 pub mod Explored
 pub mod Lawful

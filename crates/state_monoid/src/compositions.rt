@@ -16,8 +16,9 @@ use std::alloc::Global;
 use std::marker::Model;
 use word_monoid::WordMonoid;
 
-/// All functions that the words of an automaton make, by numbers: its transition monoid. Contracts see the automaton and the functions, of which
-/// the one with number c stands at place c. Number 0 is the identity.
+/// All functions that the words of an automaton make, by numbers: its transition monoid. Contracts see the automaton and the functions,
+/// of which the one with number c stands at place c. Number 0 is the identity. What is seen holds the proof that these are all, since
+/// the laws of a monoid are owed for every value.
 #[derive(Drop)]
 pub struct Compositions {
     dfa: Dfa,
@@ -90,6 +91,7 @@ impl Compositions {
     pub fn of_byte(&self, byte: u8) -> u16
         ensures function { slice_get self.now.functions result ≡ Some (image self.now.automaton (byte ∷ [])) }
         ensures value { result ≡ byte_number self.now byte }
+        ensures within { result < length self.now.functions }
     {
         self.bytes[byte as usize]
     }
@@ -100,6 +102,7 @@ impl Compositions {
         requires second { b < length self.now.functions }
         ensures function { slice_get self.now.functions result ≡ Some (compose (function_of self.now a) (function_of self.now b)) }
         ensures value { result ≡ number_of self.now (compose (function_of self.now a) (function_of self.now b)) }
+        ensures within { result < length self.now.functions }
     {
         self.joins[b as usize * self.functions.len() + a as usize]
     }

@@ -3,7 +3,7 @@ ghost use Rattle.std.specs.Prelude.{◌≡◌, ℕ, ◌+◌, ◌<◌, ◌≤◌,
 ghost use Rattle.std.specs.Cmp.Lexicographic.{pointwise};
 ghost use Rattle.std.specs.List.{IsDistinct};
 ghost use Rattle.state_monoid.specs.Image.{image, HasMoreThan};
-ghost use Rattle.state_monoid.specs.Exploring.{AreLetters};
+ghost use Rattle.state_monoid.specs.Letters.{AreLetters};
 ghost use Rattle.state_monoid.specs.Explored.{IsNumbered, AreExplored, IsRow, AreRows, StaysIn};
 ghost use Rattle.state_monoid.specs.declared.fault.BuildFault.TheVariants.{TooMany};
 

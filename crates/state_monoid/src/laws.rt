@@ -1,6 +1,7 @@
 //! Laws of the functions that words make.
 ghost use Rattle.std.specs.Prelude.{◌≡◌, ℕ, ◌<◌, ◌≤◌, ◌++◌, List, [], length, map, take, Some, slice_get, slice_index};
-ghost use Rattle.word_monoid.specs.Folds.{prefix_of, prefixes};
+ghost use Rattle.word_monoid.specs.Folds.{prefixes};
+ghost use Rattle.word_monoid.specs.Monoid.{IsItem};
 ghost use Rattle.state_monoid.specs.Automaton.{Automaton, IsAutomaton, IsWord, run};
 ghost use Rattle.state_monoid.specs.Image.{IsFunction, compose, image, IsNumbering, HasMoreThan};
 ghost use Rattle.state_monoid.specs.Numbering.{function_of, byte_number, composition};
@@ -26,11 +27,18 @@ pub fn few_or_too_many()
     ensures { (d : Automaton) (functions : List (List ℕ)) → IsNumbering d functions → length functions ≤ 4096 → HasMoreThan d 4096 → ⊥ }
 {}
 
+/// The number of each byte's function is an item of the monoid.
+pub fn bytes_have_items(compositions: &Compositions)
+    ensures { (b : ℕ) → b < 256 → IsItem (composition compositions.now) (byte_number compositions.now b) }
+{
+    let _ = compositions;
+}
+
 /// What an automaton has read is known from the prefixes of the numbers of the bytes: at each place the function of the bytes before
 /// it, and from each state the state that these lead to.
 pub fn prefixes_are_runs(compositions: &Compositions, bytes: &[u8])
-    ensures functions { (i : ℕ) → i ≤ length bytes.now → slice_get compositions.now.functions (prefix_of (composition compositions.now) (map (byte_number compositions.now) bytes.now) i) ≡ Some (image compositions.now.automaton (take i bytes.now)) }
-    ensures states { (i s : ℕ) → i ≤ length bytes.now → s < compositions.now.automaton.states → slice_index (function_of compositions.now (prefix_of (composition compositions.now) (map (byte_number compositions.now) bytes.now) i)) s ≡ run compositions.now.automaton s (take i bytes.now) }
+    ensures functions { (i c : ℕ) → slice_get (prefixes (composition compositions.now) (map (byte_number compositions.now) bytes.now)) i ≡ Some c → slice_get compositions.now.functions c ≡ Some (image compositions.now.automaton (take i bytes.now)) }
+    ensures states { (i c s : ℕ) → slice_get (prefixes (composition compositions.now) (map (byte_number compositions.now) bytes.now)) i ≡ Some c → s < compositions.now.automaton.states → slice_index (function_of compositions.now c) s ≡ run compositions.now.automaton s (take i bytes.now) }
 {
     let _ = compositions;
     let _ = bytes;

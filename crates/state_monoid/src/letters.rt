@@ -1,6 +1,6 @@
 //! Classes of bytes.
 ghost use Rattle.std.specs.Prelude.{◌≡◌, IfOk};
-ghost use Rattle.state_monoid.specs.Exploring.{AreLetters};
+ghost use Rattle.state_monoid.specs.Letters.{AreLetters};
 
 use crate::dfa::Dfa;
 use crate::states::States;

@@ -1,7 +1,7 @@
 use Rattle.std.proofs.Common.{◌≡◌, ◌∙◌, ◌++◌, ◌+◌, List, ℕ, [], ◌∷◌, ap, sym, subst, arith}
 use Rattle.state_monoid.specs.Automaton.{Automaton}
 use Rattle.state_monoid.specs.Image.{image}
-use Rattle.state_monoid.specs.Exploring.{AreLetters}
+use Rattle.state_monoid.specs.Letters.{AreLetters}
 use Rattle.state_monoid.proofs.Exploration.{letters_step}
 use Rattle.state_monoid.proofs.letters.Letters.new.Goals as goal
 

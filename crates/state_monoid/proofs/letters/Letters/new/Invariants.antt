@@ -1,4 +1,4 @@
-use Rattle.state_monoid.specs.Exploring.{AreLetters}
+use Rattle.state_monoid.specs.Letters.{AreLetters}
 use Rattle.state_monoid.proofs.letters.Letters.new.Given as goal
 
 abbrev pub invariant-loop-byte : goal.invariant-loop-byte

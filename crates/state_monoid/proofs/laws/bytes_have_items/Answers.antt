@@ -1,0 +1,5 @@
+use Rattle.state_monoid.proofs.Prefixes.{byte_item}
+use Rattle.state_monoid.proofs.laws.bytes_have_items.Goals as goal
+
+pub returns : goal.returns
+returns c b h = byte_item c.args.compositions.now b h
