@@ -100,12 +100,8 @@ pub(crate) fn explore(alloc: Global, letters: &Letters) -> Result<Explored, Buil
         before: 0,
         letter: 0,
     };
-    number(
-        &mut functions,
-        &mut origins,
-        States::identity(&letters.dfa),
-        start,
-    )?;
+    let identity = States::identity(&letters.dfa);
+    number(&mut functions, &mut origins, identity, start)?;
     while rows.len() < functions.len() {
         let next = row(alloc, letters, &mut functions, &mut origins, rows.len())?;
         rows.push(next)?;

@@ -13,9 +13,9 @@ pub loop-alloc-init : goal.loop-alloc-init
 loop-alloc-init c =
     let start : Origin = record { before = 0; letter = 0 } in
     record {
-      explored = explored_first c.args.letters.now.dfa c.args.letters.now.functions.keys c.new-functions.result.keys c.new-origins.result.items c.identity.result start
+      explored = explored_first c.args.letters.now.dfa c.args.letters.now.functions.keys c.new-functions.result.keys c.new-origins.result.items c.identity-identity.result start
           c.number.new.functions.keys c.number.new.origins.items c.in_ok-number.field-0 c.new-functions.ensures.empty c.new-origins.ensures.items
-          (c.identity.ensures.value ∙ sym (image_none c.args.letters.now.dfa)) c.in_ok-number.ensures.ok;
+          (c.identity-identity.ensures.value ∙ sym (image_none c.args.letters.now.dfa)) c.in_ok-number.ensures.ok;
       rows = λ n row at. absurd (no_item n row (subst (λ (l : List (Vec ℕ Global)). slice_get (map (λ v. v.items) l) n ≡ Some row) c.new-rows.ensures.items at));
       few = let none : length c.new-rows.result.items ≡ 0 = ap (λ (l : List (Vec ℕ Global)). length l) c.new-rows.ensures.items in omega arith;
     }
