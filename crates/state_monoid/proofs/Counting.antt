@@ -1,12 +1,12 @@
 -- A numbering of at most n functions leaves no room for n + 1.
-use Rattle.std.proofs.Common.{◌≡◌, ◌≢◌, ℕ, ◌+◌, ◌≤◌, true, List, length, get_or, subst, sym, ap, ◌∙◌, arith}
-use Rattle.std.specs.Prelude.{nat_eq, AllPairs, Contains}
+use Rattle.std.proofs.Common.{◌≡◌, ℕ, ◌≤◌, true, List, length, subst, arith}
+use Rattle.std.specs.Prelude.{nat_eq, Contains}
 use Rattle.std.specs.List.{IsDistinct}
 use Rattle.std.specs.Set.{is_member}
 use Rattle.std.specs.Cmp.Lexicographic.{pointwise, bytes_decides, nat_list_eq_equiv}
 use Rattle.std.proofs.lemmas.Map.Made.{IsDistinct-from_AllPairs, is_member-Decides, length-le_from_is_member}
 use Rattle.state_monoid.specs.Automaton.{Automaton}
-use Rattle.state_monoid.specs.Image.{image, IsReached, IsNumbering, HasMoreThan}
+use Rattle.state_monoid.specs.Image.{IsReached, IsNumbering, HasMoreThan}
 
 pub too_many : (d : Automaton) (functions : List (List ℕ)) → IsNumbering d functions → length functions ≤ 4096 → HasMoreThan d 4096 → ⊥
 too_many d functions all few more =

@@ -1,14 +1,13 @@
 -- The steps of the search over the functions of an automaton.
-use Rattle.std.proofs.Common.{◌≡◌, ◌⊎◌, ℕ, zero, suc, ◌+◌, ◌<◌, ◌≤◌, true, List, [], ◌∷◌, ◌++◌, length, get_or, All, Some, slice_get, refl, sym, ap, subst, ◌∙◌, arith, inl, inr, ⊎_elim}
-use Rattle.std.specs.Prelude.{nat_eq, slice_index, slice_index_or}
+use Rattle.std.proofs.Common.{◌≡◌, ℕ, ◌+◌, ◌<◌, ◌≤◌, true, List, [], ◌∷◌, ◌++◌, length, All, Some, slice_get, sym, ap, subst, ◌∙◌, arith, ⊎_elim}
+use Rattle.std.specs.Prelude.{nat_eq, slice_index}
 use Rattle.std.specs.Cmp.Lexicographic.{pointwise}
 use Rattle.std.proofs.lemmas.Bool.{cases_lt}
 use Rattle.indexmap.specs.IndexSet.{insert_key}
-use Rattle.word_monoid.proofs.Folds.{get_below}
-use Rattle.state_monoid.specs.Automaton.{Automaton, IsAutomaton, IsWord}
-use Rattle.state_monoid.specs.Image.{IsFunction, compose, image, IsReached, IsNumbering, HasMoreThan}
+use Rattle.state_monoid.specs.Automaton.{Automaton}
+use Rattle.state_monoid.specs.Image.{image}
 use Rattle.state_monoid.specs.Letters.{IsLetter, AreLetters}
-use Rattle.state_monoid.specs.Places.{equal_lists, get_append, get_last, get_pushed, all_pushed, length_pushed, pushed_below, pushed_last, value_get, get_value, inserted}
+use Rattle.state_monoid.specs.Places.{equal_lists, get_append, all_pushed, length_pushed, pushed_below, pushed_last, inserted}
 
 pub letters_step : (d : Automaton) (n : ℕ) (letters : List (List ℕ)) (of_byte : List ℕ) (new : List (List ℕ)) (r : ℕ) (f k : List ℕ)
     → AreLetters d n letters of_byte → n < 256 → f ≡ image d (n ∷ []) → new ≡ insert_key (pointwise nat_eq) letters f

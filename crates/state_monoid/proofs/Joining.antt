@@ -1,21 +1,18 @@
 -- The table of joins, column by column.
-use Rattle.std.proofs.Common.{◌≡◌, ℕ, zero, suc, ◌+◌, ◌*◌, ◌<◌, ◌≤◌, List, [], ◌∷◌, ◌++◌, length, get_or, take, drop, map, All, Some, slice_get, refl, sym, ap, subst, ◌∙◌, arith, inl, inr, ⊎_elim}
+use Rattle.std.proofs.Common.{◌≡◌, ℕ, ◌+◌, ◌*◌, ◌<◌, ◌≤◌, List, [], ◌∷◌, ◌++◌, length, get_or, take, drop, map, All, Some, slice_get, sym, ap, subst, ◌∙◌, arith, ⊎_elim}
 use Rattle.std.specs.Prelude.{slice_index, slice_index_or}
 use Rattle.std.specs.List.{range_with_len}
 use Rattle.std.proofs.Math.Nat.{mul-le-mul_right}
 use Rattle.std.proofs.lemmas.Bool.{cases_lt}
 use Rattle.std.proofs.lemmas.List.{length-map, get_or-map, get_or-take, get_or-drop, length-take-le, length-drop, length-append, get_or-append-add, get_or_append_left}
-use Rattle.std.proofs.lemmas.List.Elements.{All-append, All-map}
+use Rattle.std.proofs.lemmas.List.Elements.{All-append}
 use Rattle.std.proofs.lemmas.List.FromFn.{length-range_with_len, get_or-range_with_len}
-use Rattle.word_monoid.proofs.Folds.{get_below, all_at}
+use Rattle.word_monoid.proofs.Folds.{get_below}
 use Rattle.state_monoid.specs.Automaton.{Automaton, IsAutomaton}
-use Rattle.state_monoid.specs.Image.{IsFunction, compose, image, IsReached}
+use Rattle.state_monoid.specs.Image.{compose, image}
 use Rattle.state_monoid.specs.declared.explore.Origin.{Origin}
-use Rattle.state_monoid.specs.Letters.{IsLetter, AreLetters}
-use Rattle.state_monoid.specs.Explored.{IsMade, AreExplored, IsRow, AreRows, AreColumns, AreJoined}
-use Rattle.state_monoid.specs.Functions.{map_map, map_id, map_same}
+use Rattle.state_monoid.specs.Explored.{IsMade, AreExplored, AreRows, AreColumns, AreJoined}
 use Rattle.state_monoid.specs.Places.{value_get, get_value, length_pushed, pushed_below, pushed_last}
-use Rattle.state_monoid.specs.Words.{length-image, image_function, image_none, image_below}
 use Rattle.state_monoid.specs.Reached.{reached_assoc, reached_identity}
 
 pub columns_more : (rows columns : List (List ℕ)) (column : List ℕ) (n : ℕ) → AreColumns rows n columns → column ≡ map (λ row. slice_index row n) rows → AreColumns rows (n + 1) (columns ++ column ∷ [])

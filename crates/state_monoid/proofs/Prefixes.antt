@@ -1,5 +1,5 @@
 -- Prefixes of the numbers of bytes.
-use Rattle.std.proofs.Common.{◌≡◌, ℕ, zero, suc, ◌+◌, ◌<◌, ◌≤◌, List, [], ◌∷◌, ◌++◌, length, get_or, take, map, All, fold, Some, slice_get, refl, sym, ap, subst, ◌∙◌, arith}
+use Rattle.std.proofs.Common.{◌≡◌, ℕ, ◌<◌, List, [], ◌∷◌, ◌++◌, length, take, map, fold, Some, slice_get, refl, sym, ap, ◌∙◌, arith}
 use Rattle.std.proofs.Math.Logic.{∥∥₁_elim}
 use Rattle.std.specs.Prelude.{slice_index}
 use Rattle.std.specs.Coded.{le_prop, Coded-set, coded_option, coded_list, coded_ℕ}
@@ -9,7 +9,7 @@ use Rattle.std.proofs.lemmas.Bool.{lt-ltb}
 use Rattle.word_monoid.specs.Monoid.{IsItem}
 use Rattle.word_monoid.specs.Folds.{prefix_of, prefixes}
 use Rattle.word_monoid.proofs.Folds.{get_below, all_first, all_rest, length-prefixes, prefixes_at}
-use Rattle.state_monoid.specs.Automaton.{Automaton, IsAutomaton, IsWord, run}
+use Rattle.state_monoid.specs.Automaton.{IsWord, run}
 use Rattle.state_monoid.specs.Image.{compose, image, IsReached, IsNumbering}
 use Rattle.state_monoid.specs.Numbering.{Numbering, function_of, number_of, byte_number, composition}
 use Rattle.state_monoid.specs.Places.{get_value, some_inj}

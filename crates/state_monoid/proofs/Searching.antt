@@ -1,5 +1,5 @@
 -- One step of the search: a function with one letter more gets its number.
-use Rattle.std.proofs.Common.{◌≡◌, ◌≢◌, ◌⊎◌, ℕ, zero, suc, ◌+◌, ◌<◌, ◌≤◌, true, List, [], ◌∷◌, ◌++◌, length, get_or, All, Some, slice_get, refl, sym, ap, subst, ◌∙◌, arith, inl, inr, ⊎_elim}
+use Rattle.std.proofs.Common.{◌≡◌, ◌≢◌, ℕ, zero, suc, ◌+◌, ◌<◌, ◌≤◌, List, [], ◌∷◌, ◌++◌, length, All, Some, slice_get, refl, sym, ap, subst, ◌∙◌, arith, ⊎_elim}
 use Rattle.std.specs.Prelude.{nat_eq, slice_index, slice_index_or, AllPairs}
 use Rattle.std.specs.List.{IsDistinct}
 use Rattle.std.specs.Cmp.Lexicographic.{pointwise, bytes_decides}
@@ -8,11 +8,11 @@ use Rattle.std.proofs.lemmas.List.Elements.{All-append}
 use Rattle.std.proofs.lemmas.Map.Made.{AllPairs-from_IsDistinct}
 use Rattle.word_monoid.proofs.Folds.{get_below, all_at}
 use Rattle.state_monoid.specs.Automaton.{Automaton, IsAutomaton, IsWord}
-use Rattle.state_monoid.specs.Image.{IsFunction, compose, image, IsReached, IsNumbering, HasMoreThan}
+use Rattle.state_monoid.specs.Image.{compose, image, IsReached, HasMoreThan}
 use Rattle.state_monoid.specs.declared.explore.Origin.{Origin}
 use Rattle.state_monoid.specs.declared.fault.BuildFault.{BuildFault}
 use Rattle.std.specs.Prelude.{Result, Err}
-use Rattle.state_monoid.specs.Letters.{IsLetter, AreLetters}
+use Rattle.state_monoid.specs.Letters.{IsLetter}
 use Rattle.state_monoid.specs.Explored.{StaysIn, IsNumbered, IsMade, AreExplored, IsRow, AreRows}
 use Rattle.state_monoid.specs.Places.{get_append, get_last, get_pushed, all_pushed, length_pushed, pushed_below, pushed_last, value_get, get_value, some_inj, no_item}
 use Rattle.state_monoid.specs.Words.{length-image, image_append}

@@ -1,5 +1,5 @@
 -- Numbers of functions are a monoid.
-use Rattle.std.proofs.Common.{◌≡◌, ◌≢◌, ℕ, zero, suc, ◌+◌, ◌^◌, ◌<◌, ◌≤◌, Bool, true, false, List, [], ◌∷◌, ◌++◌, length, get_or, All, Some, slice_get, refl, sym, ap, subst, ◌∙◌, arith}
+use Rattle.std.proofs.Common.{◌≡◌, ◌≢◌, ℕ, ◌^◌, ◌<◌, Bool, true, false, List, [], ◌++◌, length, Some, slice_get, refl, sym, ap, subst, ◌∙◌, arith}
 use Rattle.std.proofs.Math.Logic.{∥∥₁_elim}
 use Rattle.std.specs.Prelude.{nat_eq, nat_lt, slice_index_or, AllPairs, Contains}
 use mathlib.Core.Bool.{Bool-set}
@@ -11,8 +11,7 @@ use Rattle.std.proofs.lemmas.Bool.{lt-ltb, ltb-true}
 use Rattle.std.proofs.lemmas.List.Sums.{position_or_len_is}
 use Rattle.std.proofs.lemmas.List.Elements.{All-append}
 use Rattle.word_monoid.specs.Monoid.{IsMonoid}
-use Rattle.word_monoid.proofs.Folds.{get_below, all_at}
-use Rattle.state_monoid.specs.Automaton.{Automaton, IsAutomaton, IsWord}
+use Rattle.word_monoid.proofs.Folds.{get_below}
 use Rattle.state_monoid.specs.Image.{compose, image, IsReached, IsNumbering}
 use Rattle.state_monoid.specs.Numbering.{Numbering, function_of, number_of, composition}
 use Rattle.state_monoid.specs.Places.{value_get, get_value, equal_lists}

@@ -1,12 +1,12 @@
 -- Functions that words make: their values are states, and their composition is associative with the identity as its unit.
-use Rattle.std.proofs.Common.{◌≡◌, ℕ, ◌+◌, ◌<◌, List, [], length, get_or, map, All, refl, sym, ap, subst, ◌∙◌, arith}
+use Rattle.std.proofs.Common.{◌≡◌, ℕ, ◌<◌, List, [], length, get_or, All, sym, ap, subst, ◌∙◌, arith}
 use Rattle.std.specs.Prelude.{slice_index}
 use Rattle.std.proofs.lemmas.List.{get_or-map, length-map, ext_get_or}
 use Rattle.std.proofs.lemmas.List.FromFn.{get_or-range_with_len}
 use Rattle.state_monoid.specs.Automaton.{Automaton, IsAutomaton}
 use Rattle.state_monoid.specs.Image.{compose, image, IsReached}
 use Rattle.state_monoid.specs.Functions.{map_map, map_id, map_same}
-use Rattle.state_monoid.specs.Words.{length-image, image_at, image_none, image_below, image_append}
+use Rattle.state_monoid.specs.Words.{length-image, image_at, image_none, image_below}
 
 pub compose_assoc : (f g h : List ℕ) → All (λ s. s < length g) f → compose (compose f g) h ≡ compose f (compose g h)
 compose_assoc f g h all =

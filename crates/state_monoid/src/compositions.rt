@@ -1,6 +1,6 @@
 //! The functions of an automaton, numbered.
 ghost use Rattle.std.specs.Prelude.{◌≡◌, ℕ, ◌<◌, ◌≤◌, [], ◌∷◌, length, Some, Err, slice_get, slice_index, IfOk};
-ghost use Rattle.state_monoid.specs.Automaton.{Automaton, IsAutomaton};
+ghost use Rattle.state_monoid.specs.Automaton.{IsAutomaton};
 ghost use Rattle.state_monoid.specs.Image.{compose, image, IsNumbering, HasMoreThan};
 ghost use Rattle.state_monoid.specs.Numbering.{function_of, number_of, byte_number};
 ghost use Rattle.state_monoid.specs.declared.fault.BuildFault.TheVariants.{TooMany};

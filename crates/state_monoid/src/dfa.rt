@@ -1,5 +1,5 @@
 //! Automata.
-ghost use Rattle.std.specs.Prelude.{◌≡◌, ◌<◌, ◌≤◌, ◌↔◌, IsTrue, IfOk};
+ghost use Rattle.std.specs.Prelude.{◌≡◌, ◌<◌, ◌↔◌, IsTrue, IfOk};
 ghost use Rattle.state_monoid.specs.Automaton.{IsAutomaton, step};
 ghost use Rattle.state_monoid.specs.Image.{image};
 

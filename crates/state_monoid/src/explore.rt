@@ -2,7 +2,7 @@
 ghost use Rattle.std.specs.Prelude.{◌≡◌, ℕ, ◌+◌, ◌<◌, ◌≤◌, ◌∷◌, [], ◌++◌, length, map, nat_eq, Err, IfOk, slice_index_or};
 ghost use Rattle.std.specs.Cmp.Lexicographic.{pointwise};
 ghost use Rattle.std.specs.List.{IsDistinct};
-ghost use Rattle.state_monoid.specs.Image.{image, HasMoreThan};
+ghost use Rattle.state_monoid.specs.Image.{HasMoreThan};
 ghost use Rattle.state_monoid.specs.Letters.{AreLetters};
 ghost use Rattle.state_monoid.specs.Explored.{IsNumbered, AreExplored, IsRow, AreRows, StaysIn};
 ghost use Rattle.state_monoid.specs.declared.fault.BuildFault.TheVariants.{TooMany};

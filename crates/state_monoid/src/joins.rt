@@ -1,5 +1,5 @@
 //! The table of joins.
-ghost use Rattle.std.specs.Prelude.{◌≡◌, ℕ, ◌+◌, ◌*◌, ◌<◌, ◌≤◌, ◌++◌, length, take, drop, map, All, vec_len, slice_index, slice_index_or, [], Some, slice_get, OnOk, IfOk};
+ghost use Rattle.std.specs.Prelude.{◌≡◌, ◌+◌, ◌*◌, ◌<◌, ◌≤◌, ◌++◌, length, take, drop, map, All, slice_index, slice_index_or, [], OnOk, IfOk};
 ghost use Rattle.std.specs.List.{range_with_len};
 ghost use Rattle.state_monoid.specs.Letters.{AreLetters};
 ghost use Rattle.state_monoid.specs.Explored.{AreExplored, AreRows, AreColumns, AreJoined};

@@ -1,9 +1,8 @@
-use Rattle.std.proofs.Common.{◌≡◌, ◌∙◌, ◌++◌, ◌+◌, ◌<◌, ◌≤◌, List, ℕ, [], ◌∷◌, Vec, Global, Some, slice_get, length, map, ap, sym, subst, arith}
+use Rattle.std.proofs.Common.{◌≡◌, ◌∙◌, ◌++◌, ◌<◌, List, ℕ, [], ◌∷◌, Vec, Global, Some, slice_get, length, map, ap, sym, subst, arith}
 use Rattle.std.specs.Prelude.{slice_index_or}
 use Rattle.std.proofs.lemmas.List.{length-map, map-append}
-use Rattle.state_monoid.specs.Image.{image}
 use Rattle.state_monoid.specs.declared.explore.Origin.{Origin}
-use Rattle.state_monoid.specs.Explored.{AreExplored, AreRows, IsRow, IsNumbered}
+use Rattle.state_monoid.specs.Explored.{AreRows, IsRow}
 use Rattle.state_monoid.specs.Words.{image_none}
 use Rattle.state_monoid.specs.Places.{length_pushed, no_item}
 use Rattle.state_monoid.proofs.Searching.{explored_first, rows_more, stays_below}

@@ -1,6 +1,6 @@
-use Rattle.std.proofs.Common.{◌≡◌, ◌∙◌, ◌++◌, ◌+◌, ◌<◌, ◌≤◌, List, ℕ, [], ◌∷◌, length, get_or, Some, Err, slice_get, ap, sym, subst, arith}
+use Rattle.std.proofs.Common.{◌≡◌, ◌∙◌, ◌++◌, ◌+◌, ◌<◌, List, ℕ, [], ◌∷◌, length, Err, ap, sym, subst, arith}
 use Rattle.std.specs.Prelude.{slice_index_or}
-use Rattle.state_monoid.specs.Image.{compose, IsReached}
+use Rattle.state_monoid.specs.Image.{IsReached}
 use Rattle.state_monoid.specs.declared.explore.Origin.{Origin}
 use Rattle.state_monoid.specs.declared.fault.BuildFault.TheVariants.{TooMany}
 use Rattle.std.proofs.lemmas.Result.{err_from_is_err_and}

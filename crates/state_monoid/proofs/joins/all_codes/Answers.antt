@@ -1,5 +1,4 @@
 use Rattle.std.proofs.Common.{◌≡◌, ◌∙◌, ◌+◌, ◌++◌, ℕ, List, [], ◌∷◌, ap, sym, arith}
-use Rattle.std.specs.List.{range_with_len}
 use Rattle.state_monoid.specs.Functions.{range_more}
 use Rattle.state_monoid.proofs.joins.all_codes.Goals as goal
 

@@ -1,12 +1,12 @@
-use Rattle.std.proofs.Common.{◌≡◌, ◌∙◌, ◌++◌, ◌+◌, ◌*◌, ◌<◌, ◌≤◌, List, ℕ, [], ◌∷◌, Vec, Global, Some, slice_get, length, get_or, take, drop, map, All, refl, ap, sym, subst, arith}
+use Rattle.std.proofs.Common.{◌≡◌, ◌∙◌, ◌++◌, ◌+◌, ◌*◌, ◌<◌, ◌≤◌, List, ℕ, [], Vec, Global, Some, slice_get, length, take, drop, map, All, refl, ap, sym, subst, arith}
 use Rattle.std.specs.Prelude.{slice_index, slice_index_or}
 use Rattle.std.specs.List.{range_with_len}
 use Rattle.std.proofs.lemmas.List.{length-map}
 use Rattle.state_monoid.specs.declared.explore.Origin.{Origin}
-use Rattle.state_monoid.specs.Explored.{AreRows, AreColumns, AreJoined}
+use Rattle.state_monoid.specs.Explored.{AreColumns, AreJoined}
 use Rattle.state_monoid.specs.Places.{item_at}
 use Rattle.state_monoid.proofs.Searching.{both}
-use Rattle.state_monoid.proofs.Joining.{Joins, join_step, joined_first, rows_length, column_read}
+use Rattle.state_monoid.proofs.Joining.{Joins, join_step, joined_first, rows_length}
 use Rattle.state_monoid.proofs.joins.join_all.Goals as goal
 
 abbrev items_of : Vec ℕ Global → List ℕ

@@ -1,4 +1,4 @@
-use Rattle.std.proofs.Common.{◌≡◌, ◌∙◌, ◌++◌, ◌+◌, ◌*◌, ◌<◌, ◌≤◌, List, ℕ, [], Vec, Global, OnOk, length, take, drop, map, All, ap, sym, subst, arith}
+use Rattle.std.proofs.Common.{◌≡◌, ◌∙◌, ◌++◌, ◌*◌, ◌<◌, List, ℕ, [], Vec, Global, OnOk, length, take, drop, map, All, sym, subst}
 use Rattle.std.specs.Prelude.{slice_index, slice_index_or}
 use Rattle.state_monoid.proofs.Joining.{column_read}
 use Rattle.state_monoid.proofs.joins.join_next.Goals as goal

@@ -1,4 +1,4 @@
-use Rattle.std.proofs.Common.{ℕ, List, All, ◌<◌, subst}
+use Rattle.std.proofs.Common.{ℕ, All, ◌<◌, subst}
 use Rattle.state_monoid.specs.Reached.{compose_assoc, identity_left, identity_right}
 use Rattle.state_monoid.proofs.laws.composition_is_associative.Goals as goal
 

@@ -1,4 +1,4 @@
-use Rattle.std.proofs.Common.{[], ◌∙◌}
+use Rattle.std.proofs.Common.{[]}
 use Rattle.state_monoid.specs.Words.{image_append, image_at}
 use Rattle.state_monoid.proofs.laws.words_compose.Goals as goal
 

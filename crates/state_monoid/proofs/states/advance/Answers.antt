@@ -1,4 +1,4 @@
-use Rattle.std.proofs.Common.{◌≡◌, ◌∙◌, ◌<◌, ℕ, length, ap, arith}
+use Rattle.std.proofs.Common.{◌≡◌, ◌∙◌, ◌<◌, length, arith}
 use Rattle.std.proofs.lemmas.List.Elements.{All-set}
 use Rattle.state_monoid.specs.Automaton.{step}
 use Rattle.state_monoid.specs.Functions.{mapped_more, mapped_all}

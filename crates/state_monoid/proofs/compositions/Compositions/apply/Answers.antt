@@ -1,6 +1,6 @@
-use Rattle.std.proofs.Common.{◌≡◌, ◌∙◌, ◌<◌, ℕ, List, [], Some, slice_get, length, ap, sym, arith}
+use Rattle.std.proofs.Common.{◌≡◌, ◌∙◌, ℕ, List, [], length, ap, sym, arith}
 use Rattle.std.specs.Prelude.{slice_index_or}
-use Rattle.state_monoid.specs.Numbering.{Numbering, function_of}
+use Rattle.state_monoid.specs.Numbering.{Numbering}
 use Rattle.state_monoid.specs.Lawful.{function_length}
 use Rattle.state_monoid.specs.Places.{item_at, get_value}
 use Rattle.state_monoid.proofs.compositions.Compositions.apply.Goals as goal

@@ -1,4 +1,4 @@
-use Rattle.std.proofs.Common.{◌≡◌, ◌∙◌, ◌<◌, ℕ, List, [], Vec, Global, length, map, All, ap, sym, subst, arith}
+use Rattle.std.proofs.Common.{◌≡◌, ◌∙◌, ◌<◌, ℕ, List, [], Vec, Global, length, map, All, sym, subst, arith}
 use Rattle.std.specs.Prelude.{slice_index, slice_index_or}
 use Rattle.std.proofs.lemmas.List.{length-map}
 use Rattle.word_monoid.proofs.Folds.{get_below}

@@ -1,4 +1,4 @@
-use Rattle.std.proofs.Common.{◌≡◌, ◌∙◌, ◌+◌, ◌*◌, ◌<◌, ℕ, List, Some, slice_get, length, ap, sym, arith}
+use Rattle.std.proofs.Common.{◌≡◌, ◌∙◌, ◌+◌, ◌*◌, ◌<◌, ℕ, List, slice_get, length, ap, sym, arith}
 use Rattle.std.specs.Prelude.{slice_index, slice_index_or}
 use Rattle.state_monoid.specs.Numbering.{Numbering}
 use Rattle.state_monoid.specs.Lawful.{join_is}

@@ -1,4 +1,4 @@
-use Rattle.std.proofs.Common.{◌≡◌, ◌∙◌, ◌<◌, ℕ, List, [], ◌∷◌, Some, slice_get, length, ap, sym, arith}
+use Rattle.std.proofs.Common.{◌≡◌, ◌∙◌, ◌<◌, [], ◌∷◌, slice_get, length, ap, sym, arith}
 use Rattle.std.specs.Prelude.{slice_index}
 use Rattle.state_monoid.specs.Lawful.{word_is}
 use Rattle.state_monoid.specs.Places.{read_is}

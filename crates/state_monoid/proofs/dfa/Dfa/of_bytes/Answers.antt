@@ -1,4 +1,4 @@
-use Rattle.std.proofs.Common.{◌≡◌, ◌∙◌, ◌+◌, List, ℕ, take, length, map, get_or, ap, sym, arith}
+use Rattle.std.proofs.Common.{◌≡◌, ◌∙◌, List, ℕ, take, length, map, get_or, ap, sym}
 use Rattle.state_monoid.specs.Image.{image}
 use Rattle.state_monoid.specs.Automaton.{step}
 use Rattle.state_monoid.specs.Words.{length-image, image_next}

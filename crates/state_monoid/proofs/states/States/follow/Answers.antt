@@ -1,7 +1,5 @@
-use Rattle.std.proofs.Common.{◌≡◌, ◌∙◌, ◌<◌, ◌++◌, ℕ, List, All, length, take, map, ap, sym, subst, arith}
-use Rattle.std.proofs.Math.Seq.{take-append_seam}
+use Rattle.std.proofs.Common.{◌≡◌, ◌∙◌, ℕ, List, length, take, map, ap, arith}
 use Rattle.std.proofs.lemmas.List.{length-map, length-take-le}
-use Rattle.state_monoid.specs.Image.{IsFunction}
 use Rattle.state_monoid.specs.Automaton.{step}
 use Rattle.state_monoid.specs.Functions.{IsFunction-front}
 use Rattle.state_monoid.proofs.states.States.follow.Goals as goal

@@ -1,4 +1,4 @@
-use Rattle.std.proofs.Common.{◌≡◌, ◌∙◌, length, take, arith, subst, sym}
+use Rattle.std.proofs.Common.{◌≡◌, ◌∙◌, take, arith, subst, sym}
 use Rattle.std.proofs.lemmas.List.{length-set}
 use Rattle.std.specs.List.{range_with_len}
 use Rattle.state_monoid.specs.Image.{IsFunction}
