@@ -1,0 +1,8 @@
+//! Gluing: the left parse of a word, from the pieces of its neighbouring pairs.
+#![tactic(auto)]
+
+mod fault;
+mod laws;
+
+pub use fault::ParseFault;
+pub use laws::{gluing_is_derivation, open_brackets_are_the_stack, partners_keep_a_stack};
