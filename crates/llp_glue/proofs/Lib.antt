@@ -5,3 +5,6 @@ pub mod Partners
 pub mod Questions
 pub mod Keys
 pub mod Compose
+pub mod Ascending
+pub mod Starts
+pub mod Owning

@@ -1,2 +1,3 @@
 pub mod Glue
 pub mod Brackets
+pub mod Owners

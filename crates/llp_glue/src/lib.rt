@@ -3,6 +3,7 @@
 
 mod fault;
 mod laws;
+mod owners;
 
 pub use fault::ParseFault;
 pub use laws::{gluing_is_derivation, open_brackets_are_the_stack, partners_keep_a_stack};
