@@ -8,3 +8,4 @@ pub mod Compose
 pub mod Ascending
 pub mod Starts
 pub mod Owning
+pub mod Gathering

@@ -1,3 +1,4 @@
 pub mod Glue
 pub mod Brackets
 pub mod Owners
+pub mod Row

@@ -1,9 +1,11 @@
 //! Gluing: the left parse of a word, from the pieces of its neighbouring pairs.
 #![tactic(auto)]
 
+mod brackets;
 mod fault;
 mod laws;
 mod owners;
+mod sources;
 
 pub use fault::ParseFault;
 pub use laws::{gluing_is_derivation, open_brackets_are_the_stack, partners_keep_a_stack};
