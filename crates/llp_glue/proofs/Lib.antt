@@ -9,3 +9,7 @@ pub mod Ascending
 pub mod Starts
 pub mod Owning
 pub mod Gathering
+pub mod Depths
+pub mod Meeting
+pub mod Failing
+pub mod Rows
