@@ -74,12 +74,11 @@ module _ (bs : List Bracket) (few : length bs < 2 ^ 61) (k : ℕ) (l : k < lengt
           let bf = h.before in
           let at = slice_get-get_or bs j blank (omega arith) in
           let p = by_depths j h in
-          let q = symbol_same (get_or bs j blank) in
-          (
+          let q = symbol_same (get_or bs j blank) in (
             λ t. meets_at bs k j (get_or bs j blank) s (omega arith) p at (q ∙ symbol_eq-true (symbol_of (get_or bs j blank)) s (f ∙ t)),
             λ t. misses_at bs k j (get_or bs j blank) s p at (λ z.
-            let w : symbol_of (get_or bs j blank) ≡ s = sym q ∙ z in
-            true≢false (sym (symbol_eq-same s) ∙ (ap (λ r. symbol_eq r s) (sym w) ∙ (f ∙ t)))),
+                let w : symbol_of (get_or bs j blank) ≡ s = sym q ∙ z in
+                true≢false (sym (symbol_eq-same s) ∙ (ap (λ r. symbol_eq r s) (sym w) ∙ (f ∙ t)))),
           )
 
 -- ---- the keys

@@ -61,7 +61,14 @@ fn brackets_at<G: Gate, R: Threads + Sync>(
     requires len { length parts.now < 2 ^ 62 }
     ensures { IfOk result (λ v. v.items ≡ map (bracket_of tables.now start.now sources.now) parts.now) }
 {
-    map(rt, alloc, plan, gate, parts, &|p: Part| bracket_at(tables, start, sources, p))
+    map(
+        rt,
+        alloc,
+        plan,
+        gate,
+        parts,
+        &|p: Part| bracket_at(tables, start, sources, p),
+    )
 }
 
 /// The brackets of all sources, in order, by their parts.

@@ -6,7 +6,9 @@ ghost use Rattle.llp_glue.specs.declared.fault.ParseFault.TheVariants.{NoMemory 
 use crate::brackets::all_brackets;
 use crate::fault::ParseFault;
 use crate::owners::parts_of;
-use crate::sources::{Source, all_productions, are_few, bracket_counts, production_counts, sources_of};
+use crate::sources::{
+    Source, all_productions, are_few, bracket_counts, production_counts, sources_of,
+};
 use crate::unmet::{NO_KEY, least_failing};
 use chunk_seats::{Gate, Plan};
 use grammar_file::Symbol;
@@ -40,7 +42,17 @@ fn failing_pair<G: Gate, R: Threads + Sync>(
     let parts = parts_of(rt, alloc, plan, gate, counts)?;
     let parts = parts.as_slice();
     let brackets = all_brackets(rt, alloc, plan, gate, tables, start, sources, counts, parts)?;
-    least_failing(rt, alloc, plan, gate, tables, start, sources, brackets.as_slice(), parts)
+    least_failing(
+        rt,
+        alloc,
+        plan,
+        gate,
+        tables,
+        start,
+        sources,
+        brackets.as_slice(),
+        parts,
+    )
 }
 
 // The productions of all sources, or the least pair that fails.
@@ -62,11 +74,29 @@ fn glue<G: Gate, R: Threads + Sync>(
     if !are_few(brackets.as_slice()) || !are_few(productions.as_slice()) {
         return Err(too_many(alloc));
     }
-    let at = failing_pair(rt, alloc, plan, gate, tables, start, sources, brackets.as_slice())?;
+    let at = failing_pair(
+        rt,
+        alloc,
+        plan,
+        gate,
+        tables,
+        start,
+        sources,
+        brackets.as_slice(),
+    )?;
     if at < NO_KEY {
         return Err(ParseFault::Syntax { at });
     }
-    let left_parse = all_productions(rt, alloc, plan, gate, tables, start, sources, productions.as_slice())?;
+    let left_parse = all_productions(
+        rt,
+        alloc,
+        plan,
+        gate,
+        tables,
+        start,
+        sources,
+        productions.as_slice(),
+    )?;
     Ok(left_parse)
 }
 

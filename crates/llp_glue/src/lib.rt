@@ -12,3 +12,6 @@ mod unmet;
 pub use fault::ParseFault;
 pub use gluing::parse;
 pub use laws::{gluing_is_derivation, open_brackets_are_the_stack, partners_keep_a_stack};
+
+#[cfg(test)]
+mod tests;

@@ -155,7 +155,17 @@ fn unmet_keys<G: Gate, R: Threads + Sync>(
     let depths = depths.as_slice();
     let minima = Minima::build(rt, alloc, plan, gate, depths)?;
     let places = numbers(alloc, brackets.len())?;
-    keys_at(rt, alloc, plan, gate, brackets, depths, &minima, parts, places.as_slice())
+    keys_at(
+        rt,
+        alloc,
+        plan,
+        gate,
+        brackets,
+        depths,
+        &minima,
+        parts,
+        places.as_slice(),
+    )
 }
 
 // The pair of a source without an entry.
@@ -181,7 +191,14 @@ fn missing_keys<G: Gate, R: Threads + Sync>(
     ensures { IfOk result (λ v. v.items ≡ keys_of_entries tables.now start.now sources.now) }
 {
     let places = numbers(alloc, sources.len())?;
-    map(rt, alloc, plan, gate, places.as_slice(), &|j: u64| missing_key(tables, start, sources, j))
+    map(
+        rt,
+        alloc,
+        plan,
+        gate,
+        places.as_slice(),
+        &|j: u64| missing_key(tables, start, sources, j),
+    )
 }
 
 /// The least pair without an entry or with a closing bracket that isn't met, and `NO_KEY` where there is none.
