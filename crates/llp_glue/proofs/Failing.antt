@@ -1,14 +1,13 @@
 -- The least key is the least pair that fails.
-use Rattle.std.proofs.Common.{◌≡◌, ℕ, zero, suc, ◌+◌, ◌-◌, ◌<◌, ◌≤◌, ◌^◌, ◌⊎◌, inl, inr, min, List, [], ◌∷◌, ◌++◌, map, take, length, flat_map, fold, get_or, slice_get, sum, ℤ, pos, ◌-ℤ◌, ◌≤ℤ◌, ◌<ℤ◌, Bool, true, false, if◌then◌else◌, Option, Some, None, refl, sym, ap, ◌∙◌, subst, arith}
-use Rattle.std.proofs.lemmas.Bool.{cases_lt, true≢false, cond-true, cond-false}
+use Rattle.std.proofs.Common.{◌≡◌, ℕ, zero, suc, ◌+◌, ◌-◌, ◌<◌, ◌≤◌, ◌^◌, ◌⊎◌, inl, inr, min, List, [], ◌∷◌, map, length, fold, get_or, slice_get, sum, pos, ◌-ℤ◌, Bool, true, false, if◌then◌else◌, Option, Some, None, refl, sym, ap, ◌∙◌, subst, arith}
+use Rattle.std.proofs.lemmas.Bool.{cases_lt, true≢false}
 use Rattle.std.proofs.lemmas.Int.{ints}
-use Rattle.std.proofs.lemmas.Option.{none-some, same_Some, slice_get-get_or, slice_get_within, get_or_from_slice_get}
+use Rattle.std.proofs.lemmas.Option.{same_Some, slice_get-get_or, slice_get_within, get_or_from_slice_get}
 use Rattle.std.proofs.lemmas.List.FromFn.{get_or-map-range_with_len, length-map-range_with_len}
 use Rattle.grammar_file.specs.declared.symbols.Symbol.{Symbol}
 use Rattle.grammar_file.specs.Grammar.{Grammar, end_mark}
-use Rattle.grammar_file.specs.Drive.{first_stack}
 use Rattle.llp_tables.specs.Tables.{Entry}
-use Rattle.near_smaller.specs.Nearest.{AreAbove, IsPrevious, prev_le}
+use Rattle.near_smaller.specs.Nearest.{AreAbove, IsPrevious}
 use Rattle.near_smaller.proofs.Answering.{prev_le_given}
 use Rattle.llp_glue.specs.declared.owners.Part.{Part}
 use Rattle.llp_glue.specs.Glue.{symbol_eq}

@@ -1,5 +1,5 @@
 -- Whether a bracket is met, by the nearest lower depth.
-use Rattle.std.proofs.Common.{◌≡◌, ℕ, suc, ◌<◌, ◌≤◌, ◌^◌, List, length, get_or, ℤ, pos, ◌-ℤ◌, ◌≤ℤ◌, Bool, false, Option, Some, None, refl, sym, ap, ◌∙◌, arith}
+use Rattle.std.proofs.Common.{◌≡◌, ℕ, suc, ◌<◌, ◌≤◌, ◌^◌, List, length, get_or, ℤ, pos, ◌-ℤ◌, ◌≤ℤ◌, Bool, false, Some, None, sym, ap, ◌∙◌, arith}
 use Rattle.std.proofs.lemmas.Int.{ints}
 use Rattle.std.proofs.lemmas.Option.{slice_get-get_or, same_Some}
 use Rattle.std.proofs.lemmas.List.FromFn.{length-map-range_with_len}
@@ -9,7 +9,7 @@ use Rattle.llp_glue.specs.declared.owners.Part.{Part}
 use Rattle.llp_glue.specs.Glue.{symbol_eq}
 use Rattle.llp_glue.specs.Brackets.{Bracket, Closing, depth}
 use Rattle.llp_glue.specs.Row.{blank}
-use Rattle.llp_glue.specs.Unmet.{AreReady, depths, partner, has_symbol, is_met, symbol_of}
+use Rattle.llp_glue.specs.Unmet.{AreReady, partner, has_symbol, is_met, symbol_of}
 use Rattle.llp_glue.proofs.Depths.{depth_at, depth_low}
 
 pub any_default : {X : Type 0} (xs : List X) (i : ℕ) (d e : X) → i < length xs → get_or xs i d ≡ get_or xs i e

@@ -1,8 +1,6 @@
 -- A parse by the keys of the sources is a parse by the grammar of the tables.
-use Rattle.std.proofs.Common.{◌≡◌, ℕ, suc, ◌+◌, ◌-◌, ◌<◌, ◌≤◌, ◌^◌, List, [], ◌∷◌, ◌++◌, map, length, flat_map, get_or, slice_get, sum, Option, Some, None, Result, Ok, Err, refl, sym, ap, ◌∙◌, subst, arith, length-append}
-use Rattle.std.specs.List.{range_with_len}
+use Rattle.std.proofs.Common.{◌≡◌, ℕ, suc, ◌-◌, ◌<◌, ◌^◌, List, [], ◌∷◌, ◌++◌, map, length, flat_map, get_or, slice_get, sum, Option, Some, Result, Ok, Err, refl, sym, ap, ◌∙◌, subst, arith, length-append}
 use Rattle.std.proofs.lemmas.List.{get_or-map, length-map}
-use Rattle.std.proofs.lemmas.List.Folds.{flat_map-map}
 use Rattle.std.proofs.lemmas.List.FromFn.{get_or-map-range_with_len, length-map-range_with_len}
 use Rattle.std.proofs.lemmas.Option.{slice_get_within, get_or_from_slice_get}
 use Rattle.grammar_file.specs.declared.symbols.Symbol.{Symbol}
@@ -12,7 +10,7 @@ use Rattle.grammar_file.specs.Spelling.{IsReduced}
 use Rattle.llp_tables.specs.Tables.{Entry}
 use Rattle.llp_tables.specs.EntryTable.{EntryTable, AreTablesOf, entry_of}
 use Rattle.llp_glue.specs.declared.sources.Source.{Source}
-use Rattle.llp_glue.specs.declared.sources.Source.TheVariants.{Start, Pair}
+use Rattle.llp_glue.specs.declared.sources.Source.TheVariants.{Start}
 use Rattle.llp_glue.specs.Glue.{IsParse, pairs, pairs_of, productions_of}
 use Rattle.llp_glue.specs.Owners.{parts}
 use Rattle.llp_glue.specs.Brackets.{brackets_of, brackets}
