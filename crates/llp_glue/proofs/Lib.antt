@@ -1,0 +1,15 @@
+pub mod Lookbacks
+pub mod Tokens
+pub mod Pairs
+pub mod Partners
+pub mod Questions
+pub mod Keys
+pub mod Compose
+pub mod Ascending
+pub mod Starts
+pub mod Owning
+pub mod Gathering
+pub mod Depths
+pub mod Meeting
+pub mod Failing
+pub mod Rows

@@ -1,0 +1,6 @@
+pub mod Glue
+pub mod Brackets
+pub mod Owners
+pub mod Row
+pub mod Unmet
+pub mod Parsing
