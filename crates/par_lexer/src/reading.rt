@@ -1,0 +1,1 @@
+//! The states of the lexer's automaton.
