@@ -195,7 +195,7 @@ two_rule c x = go (mark_of c)
     go (the_bar e) = at 124 e (some_one (124 == x) BarBar ∙ eq_sym 124 x)
     go (the_slash e) = at 47 e (or_false ((x == 47) && true) ∙ and_true (x == 47))
     go (other e s) =
-        (λ i. no_comment c (x ∷ []) s i || is_some (pairless marks c x (single_pairless c h e) i))
+        (λ i. no_comment c (x ∷ []) s i || is_some (pairless marks c x (single_pairless c e) i))
         ∙ ap (λ s. goes_on s x) (sym e)
 
 -- ---- longer pieces
