@@ -17,7 +17,7 @@ marked_next k false ks bs = refl
 abbrev kept : ℕ → ℕ → List Bool → List ℕ
 kept at n bs = marked (range_with_len at (suc n)) bs
 
-so_far_longer : (taken : List ℕ) (x : ℕ) → is_so_far taken ≡ true → is_lexeme (taken ++ x ∷ []) ≡ true → is_so_far (taken ++ x ∷ []) ≡ true
+pub so_far_longer : (taken : List ℕ) (x : ℕ) → is_so_far taken ≡ true → is_lexeme (taken ++ x ∷ []) ≡ true → is_so_far (taken ++ x ∷ []) ≡ true
 so_far_longer [] x h e = refl
 so_far_longer (c ∷ []) x h e = e
 so_far_longer (c ∷ d ∷ ds) x h e = e

@@ -164,3 +164,6 @@ blank_no_name a xs h = no_name_of a xs (blank_tested begins_no_name refl refl re
 
 pub blank_no_number : (a : ℕ) (xs : List ℕ) → is_blank a ≡ true → is_number (a ∷ xs) ≡ false
 blank_no_number a xs h = and_left (is_digit a) (list_all is_digit xs) (apart_of is_letter is_digit a xs (blank_apart a h)).not_q
+
+pub letter_not_digit : (a : ℕ) → is_letter a ≡ true → is_digit a ≡ false
+letter_not_digit a h = (apart_of is_digit is_blank a [] (letter_apart a h)).not_p

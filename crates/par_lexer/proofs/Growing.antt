@@ -32,22 +32,22 @@ or_false true = refl
 or_false false = refl
 
 -- what begins with none of the three classes is a comment or a mark
-record IsMark (c : ℕ) : Type 0 where
-  not_letter : is_letter c ≡ false
-  not_digit : is_digit c ≡ false
-  not_blank : is_blank c ≡ false
+pub record IsMark (c : ℕ) : Type 0 where
+  pub not_letter : is_letter c ≡ false
+  pub not_digit : is_digit c ≡ false
+  pub not_blank : is_blank c ≡ false
 
-begins_with_mark : (c : ℕ) (xs : List ℕ) → IsMark c → is_lexeme (c ∷ xs) ≡ (is_comment (c ∷ xs) || is_some (terminal_in marks (c ∷ xs)))
+pub begins_with_mark : (c : ℕ) (xs : List ℕ) → IsMark c → is_lexeme (c ∷ xs) ≡ (is_comment (c ∷ xs) || is_some (terminal_in marks (c ∷ xs)))
 begins_with_mark c xs m = λ i. ((((m.not_letter i && list_all (λ d. is_letter d || is_digit d) xs) || (m.not_digit i && list_all is_digit xs)) || (m.not_blank i && list_all is_blank xs)) || is_comment (c ∷ xs)) || is_some (terminal_in marks (c ∷ xs))
 
 -- the four classes of first bytes
-data First (c : ℕ) : Type 0 where
+pub data First (c : ℕ) : Type 0 where
   by_letter : is_letter c ≡ true → First c
   by_digit : is_letter c ≡ false → is_digit c ≡ true → First c
   by_blank : is_letter c ≡ false → is_digit c ≡ false → is_blank c ≡ true → First c
   by_mark : IsMark c → First c
 
-first_of : (c : ℕ) → First c
+pub first_of : (c : ℕ) → First c
 first_of c = go (is_letter c) refl (is_digit c) refl (is_blank c) refl
   where
     go : (l : Bool) → is_letter c ≡ l → (d : Bool) → is_digit c ≡ d → (b : Bool) → is_blank c ≡ b → First c

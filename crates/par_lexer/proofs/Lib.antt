@@ -1,3 +1,6 @@
 mod FirstBytes
 mod Growing
 mod Cutting
+mod Values
+mod Telling
+mod Laying

@@ -1,2 +1,4 @@
 pub mod Reading
 pub mod Spans
+pub mod Meanings
+pub mod PieceRows

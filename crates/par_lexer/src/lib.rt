@@ -1,4 +1,7 @@
-//! The tokens of a text.
+//! The tokens of a text, by composed functions of an automaton (Hillis and Steele, "Data Parallel Algorithms").
 #![tactic(auto)]
 
-mod reading;
+mod bytes;
+mod marks;
+mod meanings;
+mod pieces;

@@ -1,1 +1,0 @@
-//! The states of the lexer's automaton.
