@@ -4,3 +4,6 @@ mod Cutting
 mod Values
 mod Telling
 mod Laying
+mod Faulting
+mod Keying
+mod Keeping

@@ -2,3 +2,4 @@ pub mod Reading
 pub mod Spans
 pub mod Meanings
 pub mod PieceRows
+pub mod Table

@@ -1,6 +1,7 @@
 //! The tokens of a text, by composed functions of an automaton (Hillis and Steele, "Data Parallel Algorithms").
 #![tactic(auto)]
 
+mod automaton;
 mod bytes;
 mod marks;
 mod meanings;
