@@ -15,7 +15,7 @@ use Rattle.par_lexer.proofs.Cutting.{so_far_longer}
 
 -- ---- from neighbouring places
 
-shifted_range : {T : Type 0} (f : ℕ → T) (a n : ℕ) → map f (range_with_len (a + 1) n) ≡ map (λ k. f (suc k)) (range_with_len a n)
+pub shifted_range : {T : Type 0} (f : ℕ → T) (a n : ℕ) → map f (range_with_len (a + 1) n) ≡ map (λ k. f (suc k)) (range_with_len a n)
 shifted_range f a zero = refl
 shifted_range f a (suc n) = let e : a + 1 ≡ suc a = omega arith in λ i. f (e i) ∷ shifted_range f (a + 1) n i
 

@@ -7,3 +7,4 @@ mod Laying
 mod Faulting
 mod Keying
 mod Keeping
+mod Running

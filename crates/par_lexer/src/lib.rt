@@ -2,6 +2,7 @@
 #![tactic(auto)]
 
 mod automaton;
+mod begun;
 mod bytes;
 mod marks;
 mod meanings;
