@@ -4,20 +4,16 @@ use Rattle.std.specs.Prelude.{◌&&◌, nat_lt, take_while}
 use Rattle.source_meaning.specs.declared.kinds.Terminal.{Terminal}
 use Rattle.source_meaning.specs.Lexemes.{is_lexeme, terminal_of, is_number, decimal_value, tokens_from}
 use Rattle.source_meaning.specs.Lexemes.{Token as SourceToken}
-use Rattle.ast_rows.specs.TokenRows.{TokenRow, row_of, token_rows}
+use Rattle.ast_rows.specs.TokenRows.{TokenRow, row_of}
 use Rattle.par_lexer.specs.declared.pieces.Piece.{Piece}
 use Rattle.par_lexer.specs.declared.meanings.Meaning.{Meaning}
 use Rattle.par_lexer.specs.declared.meanings.Meaning.TheVariants.{Passed, Token, NoLexeme, TooLarge}
 use Rattle.par_lexer.specs.Meanings.{meaning_of}
-use Rattle.par_lexer.specs.PieceRows.{rows_from, is_token, kind_of}
+use Rattle.par_lexer.specs.PieceRows.{rows_from, columns}
 use Rattle.par_lexer.proofs.Faulting.{first_fault, meant, while_more}
 
 not_none : (x : ℕ × ℕ) → Some x ≡ None → ⊥
 not_none x e = cc
-
--- the three columns of the pieces that are tokens, as rows
-abbrev pub columns : List Piece → List TokenRow
-columns ps = token_rows (map kind_of (filter is_token ps)) (map (λ p. p.start) (filter is_token ps)) (map (λ p. p.length) (filter is_token ps))
 
 abbrev Kept : ℕ → ℕ → List (List ℕ) → Type 0
 Kept number at ps = first_fault at ps ≡ None → map row_of (tokens_from number at (take_while is_lexeme ps)) ≡ columns (rows_from at ps)

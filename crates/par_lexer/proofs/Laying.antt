@@ -7,7 +7,7 @@ use Rattle.source_meaning.specs.Lexemes.{is_lexeme, pieces_from, pieces}
 use Rattle.par_lexer.specs.declared.pieces.Piece.{Piece}
 use Rattle.par_lexer.specs.declared.meanings.Meaning.{Meaning}
 use Rattle.par_lexer.specs.Meanings.{meaning_of, first_meaning}
-use Rattle.par_lexer.specs.Spans.{boundaries, spans}
+use Rattle.par_lexer.specs.Spans.{boundaries, spans, neighbours}
 use Rattle.par_lexer.specs.PieceRows.{piece_at, rows_from}
 use Rattle.par_lexer.proofs.Growing.{is_so_far}
 use Rattle.par_lexer.proofs.Telling.{tells}
@@ -22,9 +22,6 @@ shifted_range f a (suc n) = let e : a + 1 ≡ suc a = omega arith in λ i. f (e 
 first_boundary : (at : ℕ) (ps : List (List ℕ)) → get_or (boundaries at ps) 0 0 ≡ at
 first_boundary at [] = refl
 first_boundary at (p ∷ ps) = refl
-
-abbrev neighbours : {T : Type 0} → (ℕ → ℕ → T) → List ℕ → ℕ → T
-neighbours g bs k = g (get_or bs k 0) (get_or bs (suc k) 0)
 
 pub spans_are : {T : Type 0} (g : ℕ → ℕ → T) (at : ℕ) (ps : List (List ℕ)) → map (neighbours g (boundaries at ps)) (range_with_len 0 (length ps)) ≡ spans g at ps
 spans_are g at [] = refl

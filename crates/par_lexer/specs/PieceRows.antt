@@ -1,7 +1,8 @@
 -- The pieces of a text as rows, and what the rows give.
-use Rattle.std.specs.Prelude.{ℕ, ◌+◌, ◌-◌, ◌*◌, ◌^◌, ◌%◌, ◌/◌, Bool, true, false, List, [], ◌∷◌, length, take, drop, Option, Some, None, ◌==◌, if◌then◌else◌}
+use Rattle.std.specs.Prelude.{ℕ, ◌+◌, ◌-◌, ◌*◌, ◌^◌, ◌%◌, ◌/◌, Bool, true, false, List, [], ◌∷◌, length, map, filter, take, drop, Option, Some, None, ◌==◌, if◌then◌else◌}
 use Rattle.source_meaning.specs.declared.kinds.Terminal.{Terminal}
 use Rattle.source_meaning.specs.declared.kinds.Terminal.TheVariants.{Ident}
+use Rattle.ast_rows.specs.TokenRows.{TokenRow, token_rows}
 use Rattle.par_lexer.specs.declared.pieces.Piece.{Piece}
 use Rattle.par_lexer.specs.declared.meanings.Meaning.TheVariants.{Passed, Token, NoLexeme, TooLarge}
 use Rattle.par_lexer.specs.Meanings.{meaning_of, first_meaning}
@@ -48,3 +49,7 @@ fault_key p = elim p.meaning [
 -- the code and the place that a key stands for
 abbrev pub fault_of_key : ℕ → Option (ℕ × ℕ)
 fault_of_key key = if key == no_fault then None else Some (key % 1024, key / 1024)
+
+-- the columns of the pieces that are tokens, as rows
+abbrev pub columns : List Piece → List TokenRow
+columns ps = token_rows (map kind_of (filter is_token ps)) (map (λ p. p.start) (filter is_token ps)) (map (λ p. p.length) (filter is_token ps))

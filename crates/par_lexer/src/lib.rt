@@ -4,6 +4,9 @@
 mod automaton;
 mod begun;
 mod bytes;
+mod cut;
+mod faults;
+mod kept;
 mod marks;
 mod meanings;
 mod pieces;
