@@ -2,6 +2,7 @@
 use Rattle.std.proofs.Common.{◌≡◌, ℕ, zero, suc, ◌+◌, ◌-◌, ◌<◌, ◌≤◌, arith, Bool, true, false, cond, List, [], ◌∷◌, ◌++◌, length, map, filter, take, drop, get_or, refl, sym, ap, ◌∙◌, subst, append_assoc}
 use Rattle.std.specs.List.{range_with_len, zip}
 use Rattle.std.proofs.lemmas.List.{length-append}
+use Rattle.std.proofs.lemmas.List.FromFn.{length-range_with_len, get_or-range_with_len}
 use Rattle.source_meaning.specs.Lexemes.{is_lexeme, pieces_from, pieces}
 use Rattle.par_passes.specs.Passes.{marked}
 use Rattle.par_lexer.specs.Reading.{is_begun, first_state, next_state, begins_from, begins}
@@ -56,3 +57,29 @@ boundaries_are (c ∷ rest) =
     marked_next 0 (is_begun (first_state c)) (range_with_len 1 (suc (length rest))) (begins_from (first_state c) rest ++ true ∷ [])
     ∙ (ap (λ b. cond b (0 ∷ kept 1 (length rest) (begins_from (first_state c) rest ++ true ∷ [])) (kept 1 (length rest) (begins_from (first_state c) rest ++ true ∷ []))) begun
     ∙ cut rest (c ∷ []) 0 refl)
+
+begins_length : (text : List ℕ) (s : ℕ) → length (begins_from s text) ≡ length text
+begins_length [] s = refl
+begins_length (c ∷ cs) s = let e : length (begins_from (next_state s c) cs) ≡ length cs = begins_length cs (next_state s c) in omega arith
+
+-- the marks are as many as the places from the first byte to the end
+pub marks_as_many : (text : List ℕ) → length (begins text ++ true ∷ []) ≡ length (range_with_len 0 (length text + 1))
+marks_as_many text =
+    let marks : length (begins text ++ true ∷ []) ≡ length (begins text) + 1 = length-append (begins text) (true ∷ []) in
+    let places : length (range_with_len 0 (length text + 1)) ≡ length text + 1 = length-range_with_len 0 (length text + 1) in
+    let same : length (begins text) ≡ length text = begins_length text 0 in
+    omega arith
+
+pub boundaries_at : (text : List ℕ) → marked (range_with_len 0 (length text + 1)) (begins text ++ true ∷ []) ≡ boundaries 0 (pieces text)
+boundaries_at text = let one : length text + 1 ≡ suc (length text) = omega arith in ap (λ (n : ℕ). marked (range_with_len 0 n) (begins text ++ true ∷ [])) one ∙ boundaries_are text
+
+pub boundaries_length : (at : ℕ) (ps : List (List ℕ)) → length (boundaries at ps) ≡ length ps + 1
+boundaries_length at [] = refl
+boundaries_length at (p ∷ ps) = let e : length (boundaries (at + length p) ps) ≡ length ps + 1 = boundaries_length (at + length p) ps in omega arith
+
+-- numbers below a bound
+pub range_within : (xs : List ℕ) (n : ℕ) → xs ≡ range_with_len 0 n → (k d : ℕ) → k < length xs → get_or xs k d < n
+range_within xs n e k d h =
+    let many : length xs ≡ n = ap length e ∙ length-range_with_len 0 n in
+    let value : get_or xs k d ≡ 0 + k = ap (λ (l : List ℕ). get_or l k d) e ∙ get_or-range_with_len 0 n k d (omega arith) in
+    omega arith

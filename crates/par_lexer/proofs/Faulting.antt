@@ -10,6 +10,7 @@ use Rattle.source_meaning.specs.Lexemes.{Token as SourceToken}
 use Rattle.par_lexer.specs.declared.meanings.Meaning.{Meaning}
 use Rattle.par_lexer.specs.declared.meanings.Meaning.TheVariants.{Passed, Token, NoLexeme, TooLarge}
 use Rattle.par_lexer.specs.Meanings.{meaning_of}
+use Rattle.source_meaning.proofs.Cut.{pieces_joined}
 use Rattle.par_lexer.proofs.Growing.{is_so_far}
 use Rattle.par_lexer.proofs.Laying.{ArePieces, are_pieces}
 
@@ -126,3 +127,28 @@ found (p ∷ ps) number at h = go (found ps number (at + length p) h.1) (found p
         ∙ (ap (λ o. answer (find is_large (token_step number at p ls o)) (end_from (at + length p) ls) whole) f
         ∙ (ap (λ b. answer (cond b (Some (record { number = number; start = at; terminal = t; lexeme = p })) (find is_large (tokens_from (number + 1) (at + length p) ls))) (end_from (at + length p) ls) whole) k
         ∙ (next ∙ fault true e (Some t) f false k)))
+
+-- a text has no more pieces than bytes
+few_from : (ps : List (List ℕ)) (at : ℕ) → ArePieces ps → at + length ps ≤ end_from at ps
+few_from [] at h = omega arith
+few_from (p ∷ ps) at h =
+    let later : at + length p + length ps ≤ end_from (at + length p) ps = few_from ps (at + length p) h.1 in
+    let byte : 0 < length p = has_byte p h.0 in
+    omega arith
+
+pub end_of_text : (text : List ℕ) → end_from 0 (pieces text) ≡ length text
+end_of_text text =
+    let all : length (flat_map (λ l. l) (pieces text)) ≡ length text = ap length (pieces_joined text) in
+    let end : end_from 0 (pieces text) ≡ 0 + length (flat_map (λ l. l) (pieces text)) = end_is 0 (pieces text) in
+    omega arith
+
+pub few_pieces : (text : List ℕ) → length (pieces text) ≤ length text
+few_pieces text =
+    let few : 0 + length (pieces text) ≤ end_from 0 (pieces text) = few_from (pieces text) 0 (are_pieces text) in
+    let end : end_from 0 (pieces text) ≡ length text = end_of_text text in
+    omega arith
+
+pub lexical_fault_is : (text : List ℕ) → lexical_fault text ≡ first_fault 0 (pieces text)
+lexical_fault_is text =
+    ap (λ (n : ℕ). answer_of 0 0 (take_while is_lexeme (pieces text)) n) (sym (end_of_text text))
+    ∙ found (pieces text) 0 0 (are_pieces text)

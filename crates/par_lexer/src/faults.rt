@@ -58,3 +58,17 @@ pub(crate) fn least_key<G: Gate, R: Threads + Sync>(
     let keys = keys(rt, alloc, plan, gate, pieces)?;
     least(rt, alloc, plan, gate, keys.as_slice())
 }
+
+// The diagnostic that a key stands for.
+pub(crate) fn told_by(key: u64) -> Option<Diagnostic>
+    requires small { key < no_fault → key < 2 ^ 36 }
+    ensures { option_map (λ d. (d.code, d.at)) result ≡ fault_of_key key }
+{
+    if key == u64::MAX {
+        return None;
+    }
+    Some(Diagnostic {
+        code: (key % 1024) as u16,
+        at: (key / 1024) as u32,
+    })
+}

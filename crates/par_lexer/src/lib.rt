@@ -5,8 +5,13 @@ mod automaton;
 mod begun;
 mod bytes;
 mod cut;
+mod fault;
 mod faults;
 mod kept;
+mod lexer;
 mod marks;
 mod meanings;
 mod pieces;
+
+pub use fault::LexFault;
+pub use lexer::lex;
