@@ -2,7 +2,7 @@
 use Rattle.std.proofs.Common.{◌≡◌, ℕ, zero, suc, ◌+◌, arith, Bool, true, false, cond, List, [], ◌∷◌, Option, Some, None, length, map, filter, refl, sym, ap, ◌∙◌, subst}
 use Rattle.std.specs.Prelude.{◌&&◌, nat_lt, take_while}
 use Rattle.source_meaning.specs.declared.kinds.Terminal.{Terminal}
-use Rattle.source_meaning.specs.Lexemes.{is_lexeme, terminal_of, is_number, decimal_value, tokens_from}
+use Rattle.source_meaning.specs.Lexemes.{is_lexeme, terminal_of, is_number, decimal_value, tokens_from, tokens, pieces, lexical_fault}
 use Rattle.source_meaning.specs.Lexemes.{Token as SourceToken}
 use Rattle.ast_rows.specs.TokenRows.{TokenRow, row_of}
 use Rattle.par_lexer.specs.declared.pieces.Piece.{Piece}
@@ -10,7 +10,7 @@ use Rattle.par_lexer.specs.declared.meanings.Meaning.{Meaning}
 use Rattle.par_lexer.specs.declared.meanings.Meaning.TheVariants.{Passed, Token, NoLexeme, TooLarge}
 use Rattle.par_lexer.specs.Meanings.{meaning_of}
 use Rattle.par_lexer.specs.PieceRows.{rows_from, columns}
-use Rattle.par_lexer.proofs.Faulting.{first_fault, meant, while_more}
+use Rattle.par_lexer.proofs.Faulting.{first_fault, meant, while_more, lexical_fault_is}
 
 not_none : (x : ℕ × ℕ) → Some x ≡ None → ⊥
 not_none x e = cc
@@ -66,3 +66,6 @@ kept (p ∷ ps) number at h = go (kept ps number (at + length p)) (kept ps (numb
         ap (λ l. map row_of (tokens_from number at l)) (while_more p ps e)
         ∙ (ap (λ o. map row_of (token_step number at p ls o)) f
         ∙ (ap (λ (l : List TokenRow). record { terminal = t; start = at; length = length p } ∷ l) (next (fault (Token t) m)) ∙ rows (Token t) m))
+
+pub text_kept : (text : List ℕ) → lexical_fault text ≡ None → columns (rows_from 0 (pieces text)) ≡ map row_of (tokens text)
+text_kept text h = sym (kept (pieces text) 0 0 (sym (lexical_fault_is text) ∙ h))

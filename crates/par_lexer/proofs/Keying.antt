@@ -3,13 +3,14 @@ use Rattle.std.proofs.Common.{◌≡◌, ℕ, zero, suc, ◌+◌, ◌*◌, ◌^�
 use Rattle.std.specs.Prelude.{min, ◌==◌}
 use Rattle.std.specs.List.{AllByRecursion}
 use Rattle.std.proofs.lemmas.Bool.Decides.{nat_tests}
+use Rattle.source_meaning.specs.Lexemes.{pieces, lexical_fault}
 use Rattle.par_lexer.specs.declared.meanings.Meaning.{Meaning}
 use Rattle.par_lexer.specs.declared.meanings.Meaning.TheVariants.{Passed, Token, NoLexeme, TooLarge}
 use Rattle.par_lexer.specs.Meanings.{meaning_of}
 use Rattle.par_lexer.specs.PieceRows.{rows_from, no_fault, fault_key, fault_of_key}
 use Rattle.par_lexer.proofs.Growing.{is_so_far}
-use Rattle.par_lexer.proofs.Laying.{ArePieces}
-use Rattle.par_lexer.proofs.Faulting.{first_fault, end_from, end_at_least, has_byte}
+use Rattle.par_lexer.proofs.Laying.{ArePieces, are_pieces}
+use Rattle.par_lexer.proofs.Faulting.{first_fault, end_from, end_at_least, has_byte, end_of_text, lexical_fault_is}
 
 abbrev keys : ℕ → List (List ℕ) → List ℕ
 keys at ps = map fault_key (rows_from at ps)
@@ -127,3 +128,35 @@ says (p ∷ ps) at e = all (says ps (at + length p) e) (meaning_of p)
 
 pub key_is : (ps : List (List ℕ)) (at : ℕ) → ArePieces ps → end_from at ps ≤ 16777216 → fault_of_key (fold min no_fault (map fault_key (rows_from at ps))) ≡ first_fault at ps
 key_is ps at h e = ap fault_of_key (least_is ps at h e) ∙ says ps at e
+
+-- a key that stands for a fault is small
+abbrev Small : ℕ → Type 0
+Small key = key < no_fault → key < 68719476736
+
+key_small : (ps : List (List ℕ)) (at : ℕ) → end_from at ps ≤ 16777216 → Small (first_key at ps)
+key_small [] at e = λ h. absurd (omega arith)
+key_small (p ∷ ps) at e = all (key_small ps (at + length p) e) (meaning_of p)
+  where
+    all : Small (first_key (at + length p) ps) → (m : Meaning) → Small (elim m [
+      | Passed ↦ first_key (at + length p) ps
+      | Token t ↦ first_key (at + length p) ps
+      | NoLexeme ↦ at * 1024 + 101
+      | TooLarge ↦ at * 1024 + 102
+    ])
+    all later Passed = later
+    all later (Token t) = later
+    all later NoLexeme = λ h. omega (arith, end_at_least (at + length p) ps)
+    all later TooLarge = λ h. omega (arith, end_at_least (at + length p) ps)
+
+-- ---- of a text
+
+in_text : (text : List ℕ) → length text ≤ 16777216 → end_from 0 (pieces text) ≤ 16777216
+in_text text h = let e : end_from 0 (pieces text) ≡ length text = end_of_text text in omega arith
+
+pub text_key : (text : List ℕ) → length text ≤ 16777216 → fault_of_key (fold min no_fault (map fault_key (rows_from 0 (pieces text)))) ≡ lexical_fault text
+text_key text h = key_is (pieces text) 0 (are_pieces text) (in_text text h) ∙ sym (lexical_fault_is text)
+
+pub text_key_small : (text : List ℕ) → length text ≤ 16777216 → fold min no_fault (map fault_key (rows_from 0 (pieces text))) < no_fault → fold min no_fault (map fault_key (rows_from 0 (pieces text))) < 68719476736
+text_key_small text h =
+    let e : fold min no_fault (map fault_key (rows_from 0 (pieces text))) ≡ first_key 0 (pieces text) = least_is (pieces text) 0 (are_pieces text) (in_text text h) in
+    subst Small (sym e) (key_small (pieces text) 0 (in_text text h))

@@ -28,8 +28,8 @@ pub fn lex<G: Gate, R: Threads + Sync>(
 {
     let pieces = pieces(rt, alloc, plan, gate, text)?;
     let key = least_key(rt, alloc, plan, gate, pieces.as_slice())?;
-    if let Some(Diagnostic { code, at }) = told_by(key) {
-        return Err(LexFault::Diagnostic { code, at });
+    match told_by(key) {
+        Some(Diagnostic { code, at }) => Err(LexFault::Diagnostic { code, at }),
+        None => Ok(tokens(rt, alloc, plan, gate, pieces.as_slice())?),
     }
-    Ok(tokens(rt, alloc, plan, gate, pieces.as_slice())?)
 }
