@@ -106,7 +106,7 @@ some_two false true t u = refl
 some_two false false t u = refl
 
 -- the marks that may go on, and all others
-data Mark (c : ℕ) : Type 0 where
+pub data Mark (c : ℕ) : Type 0 where
   the_equals : c ≡ 61 → Mark c
   the_bang : c ≡ 33 → Mark c
   the_less : c ≡ 60 → Mark c
@@ -116,10 +116,10 @@ data Mark (c : ℕ) : Type 0 where
   the_slash : c ≡ 47 → Mark c
   other : mark_state c ≡ single → (c == 47) ≡ false → Mark c
 
-same : (c k : ℕ) → (c == k) ≡ true → c ≡ k
+pub same : (c k : ℕ) → (c == k) ≡ true → c ≡ k
 same c k h = grind (arith, nat_tests)
 
-mark_of : (c : ℕ) → Mark c
+pub mark_of : (c : ℕ) → Mark c
 mark_of c = go (c == 61) refl (c == 33) refl (c == 60) refl (c == 62) refl (c == 38) refl (c == 124) refl (c == 47) refl
   where
     go : (e : Bool) → (c == 61) ≡ e → (b : Bool) → (c == 33) ≡ b → (l : Bool) → (c == 60) ≡ l → (g : Bool) → (c == 62) ≡ g → (a : Bool) → (c == 38) ≡ a → (r : Bool) → (c == 124) ≡ r → (s : Bool) → (c == 47) ≡ s → Mark c
@@ -141,7 +141,7 @@ pair_head [] c x h = refl
 pair_head (b ∷ []) c x h = and_false (b == c)
 pair_head (b ∷ d ∷ ds) c x h = differs_head (b ∷ d ∷ ds) c (x ∷ []) h
 
-pairless : (ss : List Spelling) (c x : ℕ) → list_all (λ s. is_one s.0 || differs s.0 c) ss ≡ true → terminal_in ss (c ∷ x ∷ []) ≡ None
+pub pairless : (ss : List Spelling) (c x : ℕ) → list_all (λ s. is_one s.0 || differs s.0 c) ss ≡ true → terminal_in ss (c ∷ x ∷ []) ≡ None
 pairless [] c x h = refl
 pairless (s ∷ ss) c x h =
     let parts = and_parts (is_one s.0 || differs s.0 c) (list_all (λ s. is_one s.0 || differs s.0 c) ss) h in
@@ -170,7 +170,7 @@ great_pairless (s ∷ ss) n c h k =
     let parts = and_parts (is_below n s.0) (list_all (λ s. is_below n s.0) ss) h in
     λ i. great_differs s.0 n c parts.0 k i && great_pairless ss n c parts.1 k i
 
-single_pairless : (c : ℕ) → mark_state c ≡ single → begins_no_pair c ≡ true
+pub single_pairless : (c : ℕ) → mark_state c ≡ single → begins_no_pair c ≡ true
 single_pairless c e = go (nat_le 256 c) refl
   where
     go : (b : Bool) → nat_le 256 c ≡ b → begins_no_pair c ≡ true
@@ -200,18 +200,21 @@ two_rule c x = go (mark_of c)
 
 -- ---- longer pieces
 
-long_head : (bs : List ℕ) (c d : ℕ) (ds : List ℕ) (x : ℕ) → nat_le (length bs) 2 ≡ true → bytes_eq bs (c ∷ d ∷ (ds ++ x ∷ [])) ≡ false
-long_head [] c d ds x h = refl
-long_head (b ∷ []) c d ds x h = and_false (b == c)
-long_head (b ∷ e ∷ []) c d [] x h = ap (λ t. (b == c) && t) (and_false (e == d)) ∙ and_false (b == c)
-long_head (b ∷ e ∷ []) c d (y ∷ ds) x h = ap (λ t. (b == c) && t) (and_false (e == d)) ∙ and_false (b == c)
-long_head (b ∷ e ∷ g ∷ bs) c d ds x h = let no : ⊥ = grind (arith, nat_tests) in absurd no
+three_head : (bs : List ℕ) (c d e : ℕ) (es : List ℕ) → nat_le (length bs) 2 ≡ true → bytes_eq bs (c ∷ d ∷ e ∷ es) ≡ false
+three_head [] c d e es h = refl
+three_head (b ∷ []) c d e es h = and_false (b == c)
+three_head (b ∷ g ∷ []) c d e es h = ap (λ t. (b == c) && t) (and_false (g == d)) ∙ and_false (b == c)
+three_head (b ∷ g ∷ k ∷ bs) c d e es h = let no : ⊥ = grind (arith, nat_tests) in absurd no
 
-long_mark : (ss : List Spelling) (c d : ℕ) (ds : List ℕ) (x : ℕ) → list_all (λ s. nat_le (length s.0) 2) ss ≡ true → terminal_in ss (c ∷ d ∷ (ds ++ x ∷ [])) ≡ None
-long_mark [] c d ds x h = refl
-long_mark (s ∷ ss) c d ds x h =
+pub long_mark_three : (ss : List Spelling) (c d e : ℕ) (es : List ℕ) → list_all (λ s. nat_le (length s.0) 2) ss ≡ true → terminal_in ss (c ∷ d ∷ e ∷ es) ≡ None
+long_mark_three [] c d e es h = refl
+long_mark_three (s ∷ ss) c d e es h =
     let parts = and_parts (nat_le (length s.0) 2) (list_all (λ s. nat_le (length s.0) 2) ss) h in
-    ap (λ b. cond b (Some s.1) (terminal_in ss (c ∷ d ∷ (ds ++ x ∷ [])))) (long_head s.0 c d ds x parts.0) ∙ long_mark ss c d ds x parts.1
+    ap (λ b. cond b (Some s.1) (terminal_in ss (c ∷ d ∷ e ∷ es))) (three_head s.0 c d e es parts.0) ∙ long_mark_three ss c d e es parts.1
+
+long_mark : (c d : ℕ) (ds : List ℕ) (x : ℕ) → terminal_in marks (c ∷ d ∷ (ds ++ x ∷ [])) ≡ None
+long_mark c d [] x = long_mark_three marks c d x [] refl
+long_mark c d (e ∷ es) x = long_mark_three marks c d e (es ++ x ∷ []) refl
 
 class_more : (f : ℕ → Bool) (d : ℕ) (ds : List ℕ) (x : ℕ) → list_all f (d ∷ ds) ≡ true → list_all f (d ∷ (ds ++ x ∷ [])) ≡ f x
 class_more f d ds x h = list_all-append f (d ∷ ds) (x ∷ []) ∙ ((λ i. h i && (f x && true)) ∙ and_true (f x))
@@ -219,7 +222,7 @@ class_more f d ds x h = list_all-append f (d ∷ ds) (x ∷ []) ∙ ((λ i. h i 
 mark_ends : (c d : ℕ) (ds : List ℕ) (x : ℕ) → IsMark c → (c == 47) ≡ false → is_lexeme (c ∷ d ∷ (ds ++ x ∷ [])) ≡ false
 mark_ends c d ds x m h =
     begins_with_mark c (d ∷ (ds ++ x ∷ [])) m
-    ∙ (λ i. no_comment c (d ∷ (ds ++ x ∷ [])) h i || is_some (long_mark marks c d ds x refl i))
+    ∙ (λ i. no_comment c (d ∷ (ds ++ x ∷ [])) h i || is_some (long_mark c d ds x i))
 
 abbrev More : ℕ → ℕ → List ℕ → ℕ → Type 0
 More c d ds x = is_lexeme (c ∷ d ∷ ds) ≡ true → is_lexeme (c ∷ d ∷ (ds ++ x ∷ [])) ≡ goes_on (onward (mark_state c)) x
@@ -228,7 +231,7 @@ comment_more : (d : ℕ) (ds : List ℕ) (x : ℕ) → More 47 d ds x
 comment_more d ds x h =
     let inside : ((d == 47) && list_all (λ e. not (e == 10)) ds) ≡ true = sym (or_false ((d == 47) && list_all (λ e. not (e == 10)) ds)) ∙ h in
     let parts = and_parts (d == 47) (list_all (λ e. not (e == 10)) ds) inside in
-    (λ i. is_comment_more 47 d ds x i || is_some (long_mark marks 47 d ds x refl i))
+    (λ i. is_comment_more 47 d ds x i || is_some (long_mark 47 d ds x i))
     ∙ ((λ i. (parts.0 i && (parts.1 i && not (x == 10))) || false) ∙ or_false (not (x == 10)))
 
 mark_more : (c d : ℕ) (ds : List ℕ) (x : ℕ) → IsMark c → More c d ds x

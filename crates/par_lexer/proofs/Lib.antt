@@ -8,3 +8,4 @@ mod Faulting
 mod Keying
 mod Keeping
 mod Running
+mod Fronts

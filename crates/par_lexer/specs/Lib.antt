@@ -3,3 +3,4 @@ pub mod Spans
 pub mod Meanings
 pub mod PieceRows
 pub mod Table
+pub mod Longest

@@ -8,10 +8,12 @@ mod cut;
 mod fault;
 mod faults;
 mod kept;
+mod laws;
 mod lexer;
 mod marks;
 mod meanings;
 mod pieces;
 
 pub use fault::LexFault;
+pub use laws::{first_piece_is_longest, fronts_are_lexemes};
 pub use lexer::lex;
