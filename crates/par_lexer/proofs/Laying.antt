@@ -80,7 +80,7 @@ rows_are (p ∷ ps) before text e h =
     let bytes : take (length p) (drop (length before) text) ≡ p = ap (λ (t : List ℕ). take (length p) (drop (length before) t)) e ∙ between before p rest in
     let told : first_meaning (take (length p) (drop (length before) text)) ≡ meaning_of p = ap first_meaning bytes ∙ meaning_is p h.0 in
     let row : piece_at text (length before) (length before + length p) ≡ record { start = length before; length = length p; meaning = meaning_of p } =
-        ap (λ (n : ℕ). row_with (length before) n (first_meaning (take n (drop (length before) text)))) many ∙ ap (row_with (length before) (length p)) told in
+    ap (λ (n : ℕ). row_with (length before) n (first_meaning (take n (drop (length before) text)))) many ∙ ap (row_with (length before) (length p)) told in
     let on : text ≡ (before ++ p) ++ rest = e ∙ sym (append_assoc before p rest) in
     let place : length (before ++ p) ≡ length before + length p = length-append before p in
     λ i. row i ∷ subst (λ (n : ℕ). spans (piece_at text) n ps ≡ rows_from n ps) place (rows_are ps (before ++ p) text on h.1) i

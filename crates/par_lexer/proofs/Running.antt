@@ -156,8 +156,7 @@ begins_more d e text done more i s n b inside w h is begun pushed so_far =
     let state : n ≡ next_state s x = is ∙ (ap (λ (d : Automaton). step d s x) e ∙ step_is s x h (w i 0 inside)) in
     let rest : drop i text ≡ x ∷ drop (i + 1) text = next_byte text i inside in
     let all : done ++ begins_from s (x ∷ drop (i + 1) text) ≡ (done ++ is_begun (next_state s x) ∷ []) ++ begins_from (next_state s x) (drop (i + 1) text) = sym (append_assoc done (is_begun (next_state s x) ∷ []) (begins_from (next_state s x) (drop (i + 1) text))) in
-    let mark : b ≡ is_begun (next_state s x) = begun ∙ ap is_begun state in
-    (
+    let mark : b ≡ is_begun (next_state s x) = begun ∙ ap is_begun state in (
       so_far ∙ (ap (λ (l : List ℕ). done ++ begins_from s l) rest ∙ (all ∙ sym (λ j. (pushed ∙ ap (λ b. done ++ b ∷ []) mark) j ++ begins_from (state j) (drop (i + 1) text)))),
       subst (λ (t : ℕ). t < 16) (sym state) (next_below s x),
     )

@@ -104,7 +104,7 @@ no_keyword : (c : ℕ) (cs : List ℕ) → is_letter c ≡ false → terminal_in
 no_keyword c cs l = none_in keywords c cs (all_differ keywords c l refl)
 
 marked_as : (o : Option Terminal) (c : ℕ) (cs : List ℕ) → is_so_far (c ∷ cs) ≡ true → is_lexeme (c ∷ cs) ≡ (is_comment (c ∷ cs) || is_some o)
-    → elim o [ | Some t ↦ Token t | None ↦ cond (length (c ∷ cs) == 1) NoLexeme Passed ] ≡ told (is_lexeme (c ∷ cs)) false o (c ∷ cs)
+    → elim o [ Some t ↦ Token t | None ↦ cond (length (c ∷ cs) == 1) NoLexeme Passed ] ≡ told (is_lexeme (c ∷ cs)) false o (c ∷ cs)
 marked_as (Some t) c cs h e = let lexeme : is_lexeme (c ∷ cs) ≡ true = e ∙ or_true (is_comment (c ∷ cs)) in ap (λ b. told b false (Some t) (c ∷ cs)) (sym lexeme)
   where
     or_true : (b : Bool) → (b || true) ≡ true

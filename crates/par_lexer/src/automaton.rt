@@ -13,21 +13,34 @@ pub(crate) const NOTHING: u8 = 0;
 
 // Pieces of two bytes and more.
 const WORD: u8 = 1;
+
 const NUMBER: u8 = 2;
+
 const WHITE: u8 = 3;
+
 const COMMENT: u8 = 4;
+
 const PAIR: u8 = 5;
 
 // Pieces of one byte.
 const LETTER: u8 = 6;
+
 const DIGIT: u8 = 7;
+
 const BLANK: u8 = 8;
+
 const SINGLE: u8 = 9;
+
 const EQUALS: u8 = 10;
+
 const LESS: u8 = 11;
+
 const GREATER: u8 = 12;
+
 const AMPERSAND: u8 = 13;
+
 const BAR: u8 = 14;
+
 const SLASH: u8 = 15;
 
 const STATES: u32 = 16;

@@ -97,7 +97,7 @@ fn begins_by_functions<G: Gate, R: Threads + Sync>(
 }
 
 // The same by one run of the automaton.
-fn begins_in_turn(alloc: Global, dfa: &Dfa, text: &[u8]) -> Result<Vec<bool>, AllocError>
+pub(crate) fn begins_in_turn(alloc: Global, dfa: &Dfa, text: &[u8]) -> Result<Vec<bool>, AllocError>
     requires automaton { dfa.now ≡ lexer }
     ensures { IfOk result (λ v. v.items ≡ begins_of text.now) }
 {

@@ -17,6 +17,7 @@ pub(crate) struct Diagnostic {
 }
 
 const NO_LEXEME: u64 = 101;
+
 const TOO_LARGE: u64 = 102;
 
 // A piece's diagnostic as a number, in the order of the places.

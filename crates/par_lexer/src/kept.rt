@@ -42,7 +42,14 @@ fn marks<G: Gate, R: Threads + Sync>(
     requires len { length pieces.now < 2 ^ 62 }
     ensures { IfOk result (λ v. v.items ≡ map is_kept pieces.now) }
 {
-    map(rt, alloc, plan, gate, pieces, &|piece: Piece| is_token(piece))
+    map(
+        rt,
+        alloc,
+        plan,
+        gate,
+        pieces,
+        &|piece: Piece| is_token(piece),
+    )
 }
 
 // The pieces that are tokens.

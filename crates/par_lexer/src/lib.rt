@@ -17,3 +17,6 @@ mod pieces;
 pub use fault::LexFault;
 pub use laws::{first_piece_is_longest, fronts_are_lexemes};
 pub use lexer::lex;
+
+#[cfg(test)]
+mod tests;

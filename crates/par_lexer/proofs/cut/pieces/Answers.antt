@@ -34,4 +34,4 @@ returns g c =
     let count : c.len.result - 1 ≡ length (pieces c.args.text.now) = omega arith in
     let bounds : c.as_slice.result.now ≡ boundaries 0 (pieces c.args.text.now) = c.as_slice.ensures.value ∙ c.in_ok-bounds.ensures in
     if_ok c.pieces_between.result c.pieces_between.ensures (λ v is.
-        is ∙ ((λ i. map (neighbours (piece_at text) (bounds i)) (range_with_len 0 (count i))) ∙ text_rows text (pieces_joined text)))
+    is ∙ ((λ i. map (neighbours (piece_at text) (bounds i)) (range_with_len 0 (count i))) ∙ text_rows text (pieces_joined text)))
