@@ -1,12 +1,12 @@
 -- The places at which the automaton begins a piece are those of the pieces of the text.
-use Rattle.std.proofs.Common.{◌≡◌, ℕ, zero, suc, ◌+◌, ◌-◌, ◌<◌, ◌≤◌, arith, Bool, true, false, cond, List, [], ◌∷◌, ◌++◌, length, map, filter, take, drop, get_or, refl, sym, ap, ◌∙◌, subst, append_assoc}
-use Rattle.std.specs.List.{range_with_len, zip}
+use Rattle.std.proofs.Common.{◌≡◌, ℕ, suc, ◌+◌, ◌<◌, arith, Bool, true, false, cond, List, [], ◌∷◌, ◌++◌, length, get_or, refl, ap, ◌∙◌}
+use Rattle.std.specs.List.{range_with_len}
 use Rattle.std.proofs.lemmas.List.{length-append}
 use Rattle.std.proofs.lemmas.List.FromFn.{length-range_with_len, get_or-range_with_len}
 use Rattle.source_meaning.specs.Lexemes.{is_lexeme, pieces_from, pieces}
 use Rattle.par_passes.specs.Passes.{marked}
 use Rattle.par_lexer.specs.Reading.{is_begun, first_state, next_state, begins_from, begins}
-use Rattle.par_lexer.specs.Spans.{boundaries, spans}
+use Rattle.par_lexer.specs.Spans.{boundaries}
 use Rattle.par_lexer.proofs.Growing.{state_of, is_so_far, GoesOn, EndsBefore, goes_on_is, ends_before, first_begins}
 
 -- one item more is kept where its mark is true

@@ -1,11 +1,11 @@
 -- The lexical fault is that of the first piece that has one.
-use Rattle.std.proofs.Common.{◌≡◌, ℕ, zero, suc, ◌+◌, ◌<◌, ◌≤◌, arith, Bool, true, false, cond, List, [], ◌∷◌, ◌++◌, Option, Some, None, length, take, fold, refl, sym, ap, ◌∙◌, subst}
+use Rattle.std.proofs.Common.{◌≡◌, ℕ, suc, ◌+◌, ◌<◌, ◌≤◌, arith, Bool, true, false, cond, List, [], ◌∷◌, ◌++◌, Option, Some, None, length, take, fold, refl, sym, ap, ◌∙◌}
 use Rattle.std.specs.Prelude.{◌&&◌, nat_lt, find, flat_map, take_while}
 use Rattle.std.specs.List.{prefix_len}
 use Rattle.std.proofs.lemmas.Bool.Decides.{nat_tests}
 use Rattle.std.proofs.lemmas.List.{length-append}
 use Rattle.source_meaning.specs.declared.kinds.Terminal.{Terminal}
-use Rattle.source_meaning.specs.Lexemes.{is_lexeme, terminal_of, is_number, decimal_value, pieces, pieces_from, lexical_fault, tokens_from, is_large}
+use Rattle.source_meaning.specs.Lexemes.{is_lexeme, terminal_of, is_number, decimal_value, pieces, lexical_fault, tokens_from, is_large}
 use Rattle.source_meaning.specs.Lexemes.{Token as SourceToken}
 use Rattle.par_lexer.specs.declared.meanings.Meaning.{Meaning}
 use Rattle.par_lexer.specs.declared.meanings.Meaning.TheVariants.{Passed, Token, NoLexeme, TooLarge}

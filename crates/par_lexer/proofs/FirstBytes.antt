@@ -1,10 +1,10 @@
 -- What the first byte of a piece tells.
-use Rattle.std.proofs.Common.{◌≡◌, ℕ, zero, suc, ◌+◌, ◌<◌, ◌≤◌, arith, Bool, true, false, cond, List, [], ◌∷◌, ◌++◌, Some, None, refl, sym, ap, ◌∙◌, subst, append_assoc}
+use Rattle.std.proofs.Common.{◌≡◌, ℕ, zero, suc, ◌+◌, ◌<◌, ◌≤◌, arith, Bool, true, false, cond, List, [], ◌∷◌, Some, None, refl, sym, ap, ◌∙◌, subst}
 use Rattle.std.specs.Prelude.{not, ◌&&◌, ◌||◌, ◌==◌, nat_le, is_some, bytes_eq}
 use Rattle.std.specs.List.{list_all, range_with_len}
 use Rattle.std.proofs.lemmas.Bool.{and_parts, and_left}
 use Rattle.std.proofs.lemmas.Bool.Decides.{nat_tests}
-use Rattle.source_meaning.specs.Lexemes.{is_digit, is_letter, is_blank, is_identifier, is_number, is_comment, Spelling, keywords, marks, terminal_in, is_lexeme, pieces_from, pieces}
+use Rattle.source_meaning.specs.Lexemes.{is_digit, is_letter, is_blank, is_identifier, is_number, is_comment, Spelling, keywords, marks, terminal_in, is_lexeme}
 
 -- a test that holds at each of n numbers from lo on
 pub tested : (t : ℕ → Bool) (n lo : ℕ) → list_all t (range_with_len lo n) ≡ true → (a : ℕ) → lo ≤ a → a < lo + n → t a ≡ true

@@ -1,15 +1,15 @@
 -- The state of the automaton says of a piece what may continue it.
-use Rattle.std.proofs.Common.{◌≡◌, ℕ, zero, suc, ◌+◌, ◌<◌, ◌≤◌, arith, Bool, true, false, cond, List, [], ◌∷◌, ◌++◌, Some, None, refl, sym, ap, ◌∙◌, subst, append_assoc, length}
-use Rattle.std.specs.Prelude.{not, ◌&&◌, ◌||◌, ◌==◌, nat_le, nat_eq, is_some, bytes_eq}
-use Rattle.std.specs.List.{list_all, range_with_len}
-use Rattle.std.proofs.lemmas.Bool.{and_parts, and_left}
+use Rattle.std.proofs.Common.{◌≡◌, ℕ, suc, ◌≤◌, arith, Bool, true, false, cond, List, [], ◌∷◌, ◌++◌, Some, None, refl, sym, ap, ◌∙◌, subst, length}
+use Rattle.std.specs.Prelude.{not, ◌&&◌, ◌||◌, ◌==◌, nat_le, is_some, bytes_eq}
+use Rattle.std.specs.List.{list_all}
+use Rattle.std.proofs.lemmas.Bool.{and_parts}
 use Rattle.std.proofs.lemmas.Bool.Decides.{nat_tests}
 use Rattle.std.proofs.lemmas.List.Folds.{list_all-append}
 use Rattle.source_meaning.specs.declared.kinds.Terminal.{Terminal}
 use Rattle.source_meaning.specs.declared.kinds.Terminal.TheVariants.{Cmp, Mul, AmpAmp, BarBar}
-use Rattle.source_meaning.specs.Lexemes.{is_digit, is_letter, is_blank, is_identifier, is_number, is_comment, Spelling, keywords, marks, terminal_in, is_lexeme}
+use Rattle.source_meaning.specs.Lexemes.{is_digit, is_letter, is_blank, is_comment, Spelling, marks, terminal_in, is_lexeme}
 use Rattle.par_lexer.specs.Reading.{word, number, white, comment, pair, letter, digit, blank, single, equals, less, greater, ampersand, bar, slash, is_begun, mark_state, first_state, goes_on, onward, next_state}
-use Rattle.par_lexer.proofs.FirstBytes.{tested, not_true, differs, differs_head, no_comment, begins_with_letter, begins_with_digit, begins_with_blank, none_in}
+use Rattle.par_lexer.proofs.FirstBytes.{tested, differs, differs_head, no_comment, begins_with_letter, begins_with_digit, begins_with_blank}
 
 -- the state of a piece
 abbrev pub state_of : List ℕ → ℕ

@@ -1,5 +1,5 @@
 -- The least key is that of the first piece that has a fault.
-use Rattle.std.proofs.Common.{◌≡◌, ℕ, zero, suc, ◌+◌, ◌*◌, ◌^◌, ◌%◌, ◌/◌, ◌<◌, ◌≤◌, arith, Bool, true, false, cond, List, [], ◌∷◌, Option, Some, None, length, map, fold, refl, sym, ap, ◌∙◌, subst}
+use Rattle.std.proofs.Common.{◌≡◌, ℕ, ◌+◌, ◌*◌, ◌%◌, ◌/◌, ◌<◌, ◌≤◌, arith, false, cond, List, [], ◌∷◌, Some, None, length, map, fold, refl, sym, ap, ◌∙◌, subst}
 use Rattle.std.specs.Prelude.{min, ◌==◌}
 use Rattle.std.specs.List.{AllByRecursion}
 use Rattle.std.proofs.lemmas.Bool.Decides.{nat_tests}
@@ -8,7 +8,6 @@ use Rattle.par_lexer.specs.declared.meanings.Meaning.{Meaning}
 use Rattle.par_lexer.specs.declared.meanings.Meaning.TheVariants.{Passed, Token, NoLexeme, TooLarge}
 use Rattle.par_lexer.specs.Meanings.{meaning_of}
 use Rattle.par_lexer.specs.PieceRows.{rows_from, no_fault, fault_key, fault_of_key}
-use Rattle.par_lexer.proofs.Growing.{is_so_far}
 use Rattle.par_lexer.proofs.Laying.{ArePieces, are_pieces}
 use Rattle.par_lexer.proofs.Faulting.{first_fault, end_from, end_at_least, has_byte, end_of_text, lexical_fault_is}
 

@@ -1,16 +1,16 @@
 -- What the first byte of a piece tells of it.
-use Rattle.std.proofs.Common.{◌≡◌, ℕ, zero, suc, ◌+◌, ◌<◌, ◌≤◌, arith, Bool, true, false, cond, List, [], ◌∷◌, ◌++◌, Option, Some, None, length, refl, sym, ap, ◌∙◌, subst}
+use Rattle.std.proofs.Common.{◌≡◌, ℕ, arith, Bool, true, false, cond, List, [], ◌∷◌, Option, Some, None, length, refl, sym, ap, ◌∙◌}
 use Rattle.std.specs.Prelude.{not, ◌&&◌, ◌||◌, ◌==◌, is_some, nat_lt, unwrap_or}
 use Rattle.std.specs.List.{list_all}
 use Rattle.std.proofs.lemmas.Bool.{and_parts, and_left}
 use Rattle.std.proofs.lemmas.Bool.Decides.{nat_tests}
 use Rattle.source_meaning.specs.declared.kinds.Terminal.{Terminal}
 use Rattle.source_meaning.specs.declared.kinds.Terminal.TheVariants.{Ident, Digits}
-use Rattle.source_meaning.specs.Lexemes.{is_digit, is_letter, is_blank, is_identifier, is_number, is_comment, Spelling, keywords, marks, terminal_in, terminal_of, is_lexeme, decimal_value, or_else}
+use Rattle.source_meaning.specs.Lexemes.{is_digit, is_letter, is_blank, is_identifier, is_number, is_comment, Spelling, keywords, marks, terminal_in, is_lexeme, decimal_value, or_else}
 use Rattle.par_lexer.specs.declared.meanings.Meaning.{Meaning}
 use Rattle.par_lexer.specs.declared.meanings.Meaning.TheVariants.{Passed, Token, NoLexeme, TooLarge}
 use Rattle.par_lexer.specs.Meanings.{meaning_of, first_meaning}
-use Rattle.par_lexer.proofs.FirstBytes.{none_in, differs, differs_head, begins_with_letter, begins_with_digit, begins_with_blank, NoName, digit_no_name, blank_no_name, blank_no_number, letter_not_digit}
+use Rattle.par_lexer.proofs.FirstBytes.{none_in, differs, begins_with_letter, begins_with_digit, begins_with_blank, NoName, digit_no_name, blank_no_name, blank_no_number, letter_not_digit}
 use Rattle.par_lexer.proofs.Growing.{is_so_far, IsMark, First, by_letter, by_digit, by_blank, by_mark, first_of, begins_with_mark}
 
 -- what is said of a lexeme whose terminal is known

@@ -1,5 +1,5 @@
 -- The pieces of a text as rows, and what the rows give.
-use Rattle.std.specs.Prelude.{ℕ, ◌+◌, ◌-◌, ◌*◌, ◌^◌, ◌%◌, ◌/◌, Bool, true, false, List, [], ◌∷◌, length, map, filter, take, drop, Option, Some, None, ◌==◌, if◌then◌else◌}
+use Rattle.std.specs.Prelude.{ℕ, ◌+◌, ◌-◌, ◌*◌, ◌%◌, ◌/◌, Bool, true, false, List, [], ◌∷◌, length, map, filter, take, drop, Option, Some, None, ◌==◌, if◌then◌else◌}
 use Rattle.source_meaning.specs.declared.kinds.Terminal.{Terminal}
 use Rattle.source_meaning.specs.declared.kinds.Terminal.TheVariants.{Ident}
 use Rattle.ast_rows.specs.TokenRows.{TokenRow, token_rows}

@@ -1,5 +1,5 @@
 -- What may continue the piece of a text that is being read: the states of the lexer's automaton, and their moves.
-use Rattle.std.specs.Prelude.{ℕ, ◌+◌, ◌*◌, Bool, true, false, not, ◌&&◌, ◌||◌, List, [], ◌∷◌, nat_le, ◌==◌, if◌then◌else◌}
+use Rattle.std.specs.Prelude.{ℕ, Bool, false, not, ◌||◌, List, [], ◌∷◌, nat_le, ◌==◌, if◌then◌else◌}
 use Rattle.source_meaning.specs.Lexemes.{is_letter, is_digit, is_blank}
 
 -- how many states there are

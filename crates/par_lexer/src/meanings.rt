@@ -19,6 +19,9 @@ pub(crate) enum Meaning {
     TooLarge,
 }
 
+// The greatest number that a text may have.
+const LARGEST: u64 = 2_147_483_647;
+
 // Whether digits spell a number above 2,147,483,647. It stops at the digit that makes it one.
 fn is_large(digits: &[u8]) -> bool
     ensures { result ≡ nat_lt 2147483647 (decimal_value digits.now) }
@@ -26,7 +29,7 @@ fn is_large(digits: &[u8]) -> bool
     let mut value: u64 = 0;
     for digit in digits {
         value = 10 * value + u64::from(digit.saturating_sub(b'0'));
-        if 2147483647 < value {
+        if LARGEST < value {
             return true;
         }
     }

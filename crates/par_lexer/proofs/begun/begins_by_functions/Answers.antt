@@ -1,4 +1,4 @@
-use Rattle.std.proofs.Common.{◌≡◌, ap, ◌∙◌, map, drop, List, ℕ}
+use Rattle.std.proofs.Common.{ap, ◌∙◌, map, drop, List, ℕ}
 use Rattle.par_passes.proofs.Calling.{if_ok}
 use Rattle.par_lexer.specs.Table.{is_begun_by}
 use Rattle.par_lexer.proofs.Running.{bytes_of, codes_begin, all_but_first}

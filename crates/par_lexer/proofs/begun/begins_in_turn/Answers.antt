@@ -1,4 +1,3 @@
-use Rattle.std.proofs.Common.{arith}
 use Rattle.par_lexer.proofs.Running.{bytes_of, begins_more}
 use Rattle.par_lexer.proofs.begun.begins_in_turn.Goals as goal
 

@@ -1,4 +1,4 @@
-use Rattle.std.proofs.Common.{◌≡◌, ℕ, ◌+◌, ◌++◌, [], ◌∷◌, Bool, true, length, ap, sym, ◌∙◌, List}
+use Rattle.std.proofs.Common.{◌≡◌, ◌+◌, ◌++◌, [], ◌∷◌, Bool, true, length, ap, sym, ◌∙◌, List}
 use Rattle.std.specs.List.{range_with_len}
 use Rattle.par_passes.specs.Passes.{marked}
 use Rattle.par_passes.proofs.Calling.{if_ok}

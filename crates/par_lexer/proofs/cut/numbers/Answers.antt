@@ -1,4 +1,4 @@
-use Rattle.std.proofs.Common.{◌≡◌, ◌++◌, [], ◌∷◌, sym, ap, ◌∙◌, List, ℕ}
+use Rattle.std.proofs.Common.{◌++◌, [], ◌∷◌, sym, ap, ◌∙◌, List, ℕ}
 use Rattle.par_lexer.proofs.Laying.{numbers_more}
 use Rattle.par_lexer.proofs.cut.numbers.Goals as goal
 

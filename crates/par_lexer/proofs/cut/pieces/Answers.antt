@@ -1,4 +1,4 @@
-use Rattle.std.proofs.Common.{◌≡◌, ◌+◌, ◌-◌, ◌≤◌, ℕ, List, length, ap, sym, ◌∙◌, arith, map}
+use Rattle.std.proofs.Common.{◌≡◌, ◌+◌, ◌-◌, ◌≤◌, ℕ, List, length, ap, ◌∙◌, arith, map}
 use Rattle.std.specs.List.{range_with_len}
 use Rattle.source_meaning.specs.Lexemes.{pieces}
 use Rattle.source_meaning.proofs.Cut.{pieces_joined}

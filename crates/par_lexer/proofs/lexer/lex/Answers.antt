@@ -1,4 +1,4 @@
-use Rattle.std.proofs.Common.{◌≡◌, ℕ, ◌<◌, List, map, fold, Option, Some, None, ap, sym, subst, ◌∙◌, arith, refl}
+use Rattle.std.proofs.Common.{◌≡◌, ℕ, ◌<◌, List, map, fold, Some, None, ap, sym, subst, ◌∙◌}
 use Rattle.std.specs.Prelude.{min}
 use Rattle.source_meaning.specs.Lexemes.{pieces, lexical_fault}
 use Rattle.par_lexer.specs.PieceRows.{rows_from, fault_key, fault_of_key, no_fault, columns}
