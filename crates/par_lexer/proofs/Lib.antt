@@ -1,0 +1,11 @@
+mod FirstBytes
+mod Growing
+mod Cutting
+mod Values
+mod Telling
+mod Laying
+mod Faulting
+mod Keying
+mod Keeping
+mod Running
+mod Fronts

@@ -1,0 +1,222 @@
+//! Texts and their tokens, for every kind of plan.
+ghost use Rattle.std.specs.Prelude.{◌≤◌, ◌^◌, length};
+
+use super::*;
+use crate::automaton::automaton;
+use crate::begun::{begins, begins_in_turn};
+use chunk_seats::{Gate, OpenGate, Plan};
+use source_meaning::Terminal;
+use state_monoid::Compositions;
+use std::alloc::Global;
+use std::process::Abort;
+use std::sync::atomic::{AtomicU64, Ordering};
+use std::test::*;
+use std::thread::Threads;
+
+const PLANS: [(u32, u32); 9] = [
+    (1, 1),
+    (1, 7),
+    (1, 65536),
+    (4, 1),
+    (4, 7),
+    (4, 65536),
+    (64, 1),
+    (64, 7),
+    (64, 65536),
+];
+
+// The terminals, places and lengths of a text's tokens.
+fn tokens_are<R: Threads + Abort + Sync>(
+    rt: &R,
+    alloc: Global,
+    plan: &Plan,
+    text: &[u8],
+    expected: &[(Terminal, u32, u32)],
+) -> Result<(), Fail>
+    requires len { length text.now ≤ 2 ^ 24 }
+{
+    let Ok(tokens) = lex(rt, alloc, plan, &OpenGate, text) else {
+        return Err("a fault".into());
+    };
+    let (kinds, starts, lengths) = (tokens.kinds(), tokens.starts(), tokens.lengths());
+    assert_eq!(rt; kinds.len(), expected.len());
+    assert!(rt; kinds.iter().zip(expected.iter()).all(|p| *p.0 == p.1.0));
+    assert!(rt; starts.iter().zip(expected.iter()).all(|p| *p.0 == p.1.1));
+    assert!(rt; lengths.iter().zip(expected.iter()).all(|p| *p.0 == p.1.2));
+    Ok(())
+}
+
+// The diagnostic of a text.
+fn fault_is<R: Threads + Abort + Sync>(
+    rt: &R,
+    alloc: Global,
+    plan: &Plan,
+    text: &[u8],
+    code: u16,
+    at: u32,
+) -> Result<(), Fail>
+    requires len { length text.now ≤ 2 ^ 24 }
+{
+    match lex(rt, alloc, plan, &OpenGate, text) {
+        Ok(_) => Err("no fault".into()),
+        Err(fault) => {
+            assert_eq!(rt; fault, LexFault::Diagnostic { code, at });
+            Ok(())
+        }
+    }
+}
+
+const FUNCTION: [(Terminal, u32, u32); 11] = [
+    (Terminal::FnWord, 0, 2),
+    (Terminal::Ident, 3, 4),
+    (Terminal::LeftParen, 7, 1),
+    (Terminal::RightParen, 8, 1),
+    (Terminal::Colon, 9, 1),
+    (Terminal::IntWord, 11, 3),
+    (Terminal::LeftBrace, 15, 1),
+    (Terminal::ReturnWord, 17, 6),
+    (Terminal::Digits, 24, 1),
+    (Terminal::Semicolon, 25, 1),
+    (Terminal::RightBrace, 27, 1),
+];
+
+const COMPARED: [(Terminal, u32, u32); 5] = [
+    (Terminal::Digits, 0, 1),
+    (Terminal::Cmp, 1, 2),
+    (Terminal::Digits, 3, 1),
+    (Terminal::Cmp, 5, 2),
+    (Terminal::TrueWord, 8, 4),
+];
+
+#[test]
+fn tokens_of_every_plan(rt: HostRuntime) -> Result<(), Fail> {
+    let alloc = rt.alloc();
+    for (workers, chunk) in PLANS {
+        let plan = Plan::new(workers, chunk).ok_or("in range")?;
+        let function = b"fn main(): int { return 7; } // end";
+        tokens_are(&rt, alloc, &plan, function, &FUNCTION)?;
+        tokens_are(&rt, alloc, &plan, b"1<=2 == true", &COMPARED)?;
+        tokens_are(&rt, alloc, &plan, b"", &[])?;
+        let large = [(Terminal::Digits, 0, 10)];
+        tokens_are(&rt, alloc, &plan, b"2147483647", &large)?;
+    }
+    Ok(())
+}
+
+#[test]
+fn faults_of_every_plan(rt: HostRuntime) -> Result<(), Fail> {
+    let alloc = rt.alloc();
+    for (workers, chunk) in PLANS {
+        let plan = Plan::new(workers, chunk).ok_or("in range")?;
+        fault_is(&rt, alloc, &plan, b"2147483648 $", 102, 0)?;
+        fault_is(&rt, alloc, &plan, b"$ 2147483648", 101, 0)?;
+        fault_is(&rt, alloc, &plan, b"7 0002147483648", 102, 2)?;
+        fault_is(&rt, alloc, &plan, b"7\x00\x80", 101, 1)?;
+    }
+    Ok(())
+}
+
+const EVERY_CLASS: &[u8] = b"ifx if\t12/ //\x00\x80\xff/\n&&&|||<<=!=!>>=a_1";
+
+const CLASSES: [(Terminal, u32, u32); 14] = [
+    (Terminal::Ident, 0, 3),
+    (Terminal::IfWord, 4, 2),
+    (Terminal::Digits, 7, 2),
+    (Terminal::Mul, 9, 1),
+    (Terminal::AmpAmp, 18, 2),
+    (Terminal::Mul, 20, 1),
+    (Terminal::BarBar, 21, 2),
+    (Terminal::Add, 23, 1),
+    (Terminal::Mul, 24, 2),
+    (Terminal::Equals, 26, 1),
+    (Terminal::Cmp, 27, 2),
+    (Terminal::Unop, 29, 1),
+    (Terminal::Mul, 30, 2),
+    (Terminal::Equals, 32, 1),
+];
+
+// Borders of chunks at each byte. The last token is the name behind the others.
+#[test]
+fn chunks_cut_anywhere(rt: HostRuntime) -> Result<(), Fail> {
+    let alloc = rt.alloc();
+    let mut expected = Vec::from_slice(alloc, &CLASSES)?;
+    expected.push((Terminal::Ident, 33, 3))?;
+    for chunk in 1..37 {
+        let plan = Plan::new(3, chunk).ok_or("in range")?;
+        tokens_are(&rt, alloc, &plan, EVERY_CLASS, &expected)?;
+    }
+    Ok(())
+}
+
+// A piece of a thousand bytes, from one byte again and again.
+#[test]
+fn long_pieces(rt: HostRuntime) -> Result<(), Fail> {
+    let alloc = rt.alloc();
+    let plan = Plan::new(4, 7).ok_or("in range")?;
+    let name = vec![in alloc; b'a'; 1000]?;
+    tokens_are(&rt, alloc, &plan, &name, &[(Terminal::Ident, 0, 1000)])?;
+    let zeros = vec![in alloc; b'0'; 1000]?;
+    tokens_are(&rt, alloc, &plan, &zeros, &[(Terminal::Digits, 0, 1000)])?;
+    let comment = vec![in alloc; b'/'; 1000]?;
+    tokens_are(&rt, alloc, &plan, &comment, &[])?;
+    let ones = vec![in alloc; b'1'; 1000]?;
+    fault_is(&rt, alloc, &plan, &ones, 102, 0)
+}
+
+#[test]
+fn one_run_says_the_same(rt: HostRuntime) -> Result<(), Fail> {
+    let alloc = rt.alloc();
+    let dfa = automaton(alloc)?;
+    let plan = Plan::new(4, 7).ok_or("in range")?;
+    let by_functions = begins(&rt, alloc, &plan, &OpenGate, EVERY_CLASS)?;
+    assert!(rt; begins_in_turn(alloc, &dfa, EVERY_CLASS)? == by_functions);
+    let Ok(compositions) = Compositions::build(alloc, &dfa) else {
+        return Err("too many".into());
+    };
+    assert_eq!(rt; compositions.count(), 65);
+    Ok(())
+}
+
+// The first worker that draws chunk 0 waits until the other has drawn too, for so many turns at most.
+#[derive(Drop)]
+struct Meeting {
+    claims: [AtomicU64; 2],
+    met: AtomicU64,
+    alone: AtomicU64,
+}
+
+const TURNS: u64 = 1 << 26;
+
+impl Gate for Meeting {
+    fn after_claim(&self, worker: u32, chunk: Option<u64>) {
+        let (mine, other) = if worker == 0 { (0, 1) } else { (1, 0) };
+        self.claims[mine].fetch_add(1, Ordering::SeqCst);
+        if chunk != Some(0) {
+            return;
+        }
+        for _ in 0..TURNS {
+            if self.claims[other].load(Ordering::SeqCst) > 0 {
+                self.met.fetch_add(1, Ordering::SeqCst);
+                return;
+            }
+        }
+        self.alone.fetch_add(1, Ordering::SeqCst);
+    }
+}
+
+#[test]
+fn two_workers_meet(rt: HostRuntime) -> Result<(), Fail> {
+    let plan = Plan::new(2, 1).ok_or("in range")?;
+    let gate = Meeting {
+        claims: [AtomicU64::new(0), AtomicU64::new(0)],
+        met: AtomicU64::new(0),
+        alone: AtomicU64::new(0),
+    };
+    let Ok(tokens) = lex(&rt, rt.alloc(), &plan, &gate, b"a b") else {
+        return Err("a fault".into());
+    };
+    assert_eq!(rt; tokens.len(), 2);
+    assert_eq!(rt; gate.alone.load(Ordering::SeqCst), 0);
+    assert!(rt; gate.met.load(Ordering::SeqCst) > 0);
+    Ok(())
+}
