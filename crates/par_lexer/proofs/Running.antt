@@ -1,12 +1,12 @@
 -- The automaton's runs over the beginnings of a text.
-use Rattle.std.proofs.Common.{◌≡◌, ℕ, zero, suc, ◌+◌, ◌-◌, ◌*◌, ◌%◌, ◌/◌, ◌<◌, arith, Bool, true, false, cond, List, [], ◌∷◌, ◌++◌, Some, length, map, take, drop, get_or, slice_get, All, refl, sym, ap, ◌∙◌, subst, append_assoc, Fits, w8}
+use Rattle.std.proofs.Common.{◌≡◌, ℕ, zero, suc, ◌+◌, ◌-◌, ◌*◌, ◌%◌, ◌/◌, ◌<◌, ◌≤◌, arith, Bool, true, false, cond, List, [], ◌∷◌, ◌++◌, Some, length, map, take, drop, get_or, slice_get, All, refl, sym, ap, ◌∙◌, subst, append_assoc, Fits, w8}
 use Rattle.std.specs.Prelude.{◌&&◌, ◌||◌, ◌==◌, nat_lt, slice_index}
 use Rattle.std.specs.List.{range_with_len}
 use Rattle.std.proofs.lemmas.Bool.{lt-ltb}
 use Rattle.std.proofs.lemmas.List.{length-map}
 use Rattle.std.proofs.lemmas.List.FromFn.{length-map-range_with_len, get_or-map-range_with_len}
 use Rattle.word_monoid.specs.Folds.{prefix_of, prefixes}
-use Rattle.word_monoid.proofs.Folds.{get_below, all_first, all_rest}
+use Rattle.word_monoid.proofs.Folds.{get_below, all_first, all_rest, prefixes_at}
 use Rattle.source_meaning.specs.Lexemes.{is_letter, is_digit, is_blank}
 use Rattle.state_monoid.specs.Automaton.{Automaton, IsAutomaton, IsWord, step, run}
 use Rattle.state_monoid.specs.Image.{image}
@@ -102,12 +102,14 @@ same_on_range : {T : Type 0} (f g : ℕ → T) (n from : ℕ) → ((k : ℕ) →
 same_on_range f g zero from h = refl
 same_on_range f g (suc n) from h = λ i. h from (omega arith) i ∷ same_on_range f g n (from + 1) (λ k l. h k (omega arith)) i
 
-code_begins : (m : Numbering) (text : List ℕ) (i : ℕ) → m.automaton ≡ lexer → IsWord text → is_begun_by m (prefix_of (composition m) (map (byte_number m) text) i) ≡ is_begun (run lexer 0 (take i text))
-code_begins m text i e w =
-    let code : ℕ = prefix_of (composition m) (map (byte_number m) text) i in
-    let inside : code < length m.functions = get_below m.functions code (image m.automaton (take i text)) (prefix_function m text w i) in
+code_begins : (m : Numbering) (text : List ℕ) (i : ℕ) → i ≤ length text → m.automaton ≡ lexer → IsWord text → is_begun_by m (prefix_of (composition m) (map (byte_number m) text) i) ≡ is_begun (run lexer 0 (take i text))
+code_begins m text i within e w =
+    let items : List ℕ = map (byte_number m) text in
+    let code : ℕ = prefix_of (composition m) items i in
+    let at : slice_get (prefixes (composition m) items) i ≡ Some code = prefixes_at (composition m) items i (omega (arith, length-map text (byte_number m))) in
+    let inside : code < length m.functions = get_below m.functions code (image m.automaton (take i text)) (prefix_function m text w i code at) in
     let some : 0 < m.automaton.states = m.is_automaton.some_state in
-    let state : slice_index (function_of m code) 0 ≡ run m.automaton 0 (take i text) = prefix_state m text w i 0 some in
+    let state : slice_index (function_of m code) 0 ≡ run m.automaton 0 (take i text) = prefix_state m text w i code 0 at some in
     (λ j. lt-ltb code (length m.functions) inside j && is_begun (state j)) ∙ ap (λ (d : Automaton). is_begun (run d 0 (take i text))) e
 
 -- the codes behind the first one say at which bytes pieces begin
@@ -118,7 +120,7 @@ codes_begin m text e w =
     map_map (is_begun_by m) (prefix_of (composition m) items) (range_with_len 1 (length items))
     ∙ (shifted_range (λ i. is_begun_by m (prefix_of (composition m) items i)) 0 (length items)
     ∙ (ap (λ (n : ℕ). map (λ k. is_begun_by m (prefix_of (composition m) items (suc k))) (range_with_len 0 n)) many
-    ∙ (same_on_range (λ k. is_begun_by m (prefix_of (composition m) items (suc k))) (λ k. is_begun (run lexer 0 (take (suc k) text))) (length text) 0 (λ k h. code_begins m text (suc k) e w)
+    ∙ (same_on_range (λ k. is_begun_by m (prefix_of (composition m) items (suc k))) (λ k. is_begun (run lexer 0 (take (suc k) text))) (length text) 0 (λ k h. code_begins m text (suc k) (omega arith) e w)
     ∙ sym (begins_by_runs text 0 (omega arith) w))))
   where
     map_map : {X Y Z : Type 0} (g : Y → Z) (f : X → Y) (xs : List X) → map g (map f xs) ≡ map (λ x. g (f x)) xs
