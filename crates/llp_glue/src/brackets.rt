@@ -33,6 +33,17 @@ fn bracket_at(tables: &Tables, start: &[Symbol], sources: &[Source], part: Part)
     }
 }
 
+// The bracket that is opened at a place, where the lowest symbol is opened first.
+fn opened_at(opens: &[Symbol], place: u64) -> Bracket
+    ensures { result ≡ slice_index_or (map Opening (reverse opens.now)) place blank }
+{
+    let count = opens.len() as u64;
+    if count <= place {
+        return BLANK;
+    }
+    Bracket::Opening(opens[(count - 1 - place) as usize])
+}
+
 // The bracket at a place, where these symbols are closed and then those are opened, the lowest first.
 fn bracket_in(closes: &[Symbol], opens: &[Symbol], place: u64) -> Bracket
     ensures { result ≡ slice_index_or (map Closing closes.now ++ map Opening (reverse opens.now)) place blank }
@@ -41,10 +52,7 @@ fn bracket_in(closes: &[Symbol], opens: &[Symbol], place: u64) -> Bracket
     if place < count {
         return Bracket::Closing(closes[place as usize]);
     }
-    match opens.iter().rev().nth((place - count) as usize) {
-        Some(symbol) => Bracket::Opening(*symbol),
-        None => BLANK,
-    }
+    opened_at(opens, place - count)
 }
 
 // The bracket that each part stands for.
