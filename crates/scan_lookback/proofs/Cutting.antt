@@ -1,5 +1,5 @@
 -- Items that are cut into chunks: what is made of a chunk, and of the chunks before it.
-use Rattle.std.proofs.Common.{◌≡◌, ℕ, zero, suc, ◌+◌, ◌-◌, ◌*◌, ◌/◌, ◌%◌, ◌^◌, ◌<◌, ◌≤◌, min, max, List, [], ◌∷◌, ◌++◌, length, get_or, take, drop, map, All, fold, Some, slice_get, sym, ap, ◌∙◌, subst, arith, add-one, suc-mul, mul-le-mul_right, div-add-mod', take-add}
+use Rattle.std.proofs.Common.{◌≡◌, ℕ, zero, suc, ◌+◌, ◌-◌, ◌*◌, ◌/◌, ◌%◌, ◌^◌, ◌<◌, ◌≤◌, min, max, List, [], ◌∷◌, ◌++◌, length, get_or, take, drop, map, All, fold, Some, slice_get, refl, append_assoc, sym, ap, ◌∙◌, subst, arith, add-one, suc-mul, mul-le-mul_right, div-add-mod', take-add}
 use Rattle.std.proofs.Math.Nat.{mul_assoc}
 use mathlib.Core.Logic.{dite}
 use native.Mathlib.Decide.{dec_le}
@@ -70,7 +70,7 @@ piece_begins from per size h =
 length-range : {X : Type 0} (a n : ℕ) (xs : List X) → length (take n (drop a xs)) ≡ min n (length xs - a)
 length-range a n xs = length-take n (drop a xs) ∙ ap (min n) (length-drop a xs)
 
-length-chunk : {X : Type 0} (size : ℕ) (xs : List X) (c : ℕ) → length (chunk_of size xs c) ≡ min size (length xs - c * size)
+pub length-chunk : {X : Type 0} (size : ℕ) (xs : List X) (c : ℕ) → length (chunk_of size xs c) ≡ min size (length xs - c * size)
 length-chunk size xs c = length-range (c * size) size xs
 
 module _ {T I : Type 0} (post : T → I → Type 0) (items : List T) (lifted : List I) (lifts : Lifts post items lifted) where
@@ -106,12 +106,19 @@ listed_more {I} ops a lifted i list more sum so_far is added =
     let before : ℕ → I = λ k. fold ops.join a (take k lifted) in
     added ∙ (ap (λ (l : List I). l ++ sum ∷ []) so_far ∙ (ap (λ (x : I). map before (range_with_len 0 i) ++ x ∷ []) is ∙ sym (map-range_with_len_more before 0 i i (omega arith))))
 
+-- the same behind what a list has already
+pub listed_behind : {I : Type 0} (ops : Ops I) (a : I) (lifted : List I) (i : ℕ) (front list more : List I) (sum : I) → list ≡ front ++ map (λ k. fold ops.join a (take k lifted)) (range_with_len 0 i) → sum ≡ fold ops.join a (take i lifted) → more ≡ list ++ sum ∷ []
+    → more ≡ front ++ map (λ k. fold ops.join a (take k lifted)) (range_with_len 0 (i + 1))
+listed_behind {I} ops a lifted i front list more sum so_far is added =
+    let before : List I = map (λ k. fold ops.join a (take k lifted)) (range_with_len 0 i) in
+    added ∙ (ap (λ (l : List I). l ++ sum ∷ []) so_far ∙ (append_assoc front before (sum ∷ []) ∙ ap (λ (l : List I). front ++ l) (listed_more ops a lifted i before (before ++ sum ∷ []) sum refl is refl)))
+
 module _ {I : Type 0} (ops : Ops I) (items : List I) where
-  fold_on : (a k : ℕ) → fold ops.join (prefix_of ops items a) (take k (drop a items)) ≡ prefix_of ops items (a + k)
+  pub fold_on : (a k : ℕ) → fold ops.join (prefix_of ops items a) (take k (drop a items)) ≡ prefix_of ops items (a + k)
   fold_on a k = sym (ap (fold_of ops) (take-add a k items) ∙ fold-append ops.join ops.unit (take a items) (take k (drop a items)))
 
   -- a loop over some of the items, from the place a on, makes their prefixes
-  runs_from : (a n : ℕ) (start : I) → start ≡ prefix_of ops items a → (list : List I) → list ≡ running ops start (take n (drop a items)) → list ≡ prefixes_from ops items a (length (take n (drop a items)))
+  pub runs_from : (a n : ℕ) (start : I) → start ≡ prefix_of ops items a → (list : List I) → list ≡ running ops start (take n (drop a items)) → list ≡ prefixes_from ops items a (length (take n (drop a items)))
   runs_from a n start is list made =
       made ∙ map_ranges (λ (k : ℕ). fold ops.join start (take k (take n (drop a items)))) (prefix_of ops items) 0 a (length (take n (drop a items)))
       (λ k h.

@@ -10,3 +10,4 @@ pub mod Filling
 pub mod Naming
 pub mod Totals
 pub mod Rows
+mod OneWorker

@@ -17,7 +17,7 @@ use std::sync::ledger::Blank;
 use word_monoid::WordMonoid;
 
 // The items of a chunk.
-fn chunk_slice<T>(items: &[T], size: u32, c: u64) -> &[T]
+pub(crate) fn chunk_slice<T>(items: &[T], size: u32, c: u64) -> &[T]
     requires { c * size < length items.now }
     ensures { result.now ≡ chunk_of size items.now c }
 {

@@ -2,6 +2,7 @@
 //! the chunks before. No worker waits for another: a chunk that isn't published is folded by who meets it.
 #![tactic(auto)]
 
+mod alone;
 mod back;
 mod board;
 mod chunk;

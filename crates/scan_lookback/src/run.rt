@@ -143,7 +143,7 @@ fn first_worker<
     Ok(Begun { made, list })
 }
 
-// All workers, of which the first makes the list for the answer, before it draws, while the others draw.
+// All workers, two or more, of which the first makes the list for the answer, before it draws, while the others draw.
 pub(crate) fn begin<
     'a,
     T: Copy + Sync,
@@ -167,16 +167,13 @@ pub(crate) fn begin<
 ) -> Result<Begun<M::Item>, AllocError>
     requires boards { (seat.board ≡ board.now.board) × (mine.board ≡ claims.now.board) × (claims.now.chunks ≡ board.now.chunks) }
     requires new { (seat.view ≡ blank workers) × (mine.view ≡ fresh workers) }
-    requires workers { (1 ≤ workers) × (workers ≤ 64) }
+    requires workers { (2 ≤ workers) × (workers ≤ 64) }
     requires callable { F.IsAlwaysCallable lift.now }
     requires len { length items.now < 2 ^ 62 }
     requires scans { Scans (M.ops board.now.monoid) (F.post lift.now) plan.now.chunk items.now N.items N.sums }
     ensures made { IfOk result (λ r. Makes (M.ops board.now.monoid) N.sums board.now.board claims.now.board workers r.made) }
     ensures list { IfOk result (λ r. length r.list.items ≡ length items.now) }
 {
-    if workers == 1 {
-        return first_worker(alloc, board, claims, seat, mine, plan, gate, items, lift);
-    }
     let rest = workers - 1;
     let other = board.split(&mut seat, rest);
     let theirs = claims.split(&mut mine, rest);

@@ -6,6 +6,7 @@ ghost use Rattle.word_monoid.specs.Folds.{fold_of, prefixes, prefixes_from};
 ghost use Rattle.scan_lookback.specs.Named.{Names};
 ghost use Rattle.scan_lookback.specs.Cuts.{Scans};
 
+use crate::alone::scan_alone;
 use crate::board::ScanBoard;
 use crate::fill::fill;
 use crate::made::{Begun, Made};
@@ -91,6 +92,9 @@ fn scan_named<
     know_laws(monoid);
     let count = count_chunks(items.len(), plan.chunk);
     let workers = (plan.workers as usize).min(count.max(1)) as u32;
+    if workers == 1 {
+        return scan_alone::<T, M, N, F, G>(alloc, plan, gate, monoid, items, lift, count);
+    }
     let (claims, mine) = ClaimBoard::new(alloc, count as u64, workers)?;
     let (board, seat) = ScanBoard::<M, N>::new(alloc, monoid, count as u64, workers)?;
     let Begun { made, list } = begin(
@@ -120,7 +124,8 @@ fn scan_named<
 /// The join of what is made of the items before each item, and then the join of all: one more than there are items. It is the same
 /// for every plan and gate. The only refusal is that memory is out.
 ///
-/// Workers draw chunks and find the join before each, as `work` does. Then each fills a part of the list, in place.
+/// One worker goes through the items once. More workers draw chunks and find the join before each, as `work` does; then each fills a part of
+/// the list, in place.
 pub fn scan_lifted<
     T: Copy + Sync,
     M: WordMonoid<Item: Send + Sync> + Sync,

@@ -1,5 +1,5 @@
 //! Folds and prefixes of a slice of items.
-ghost use Rattle.std.specs.Prelude.{◌≡◌, List, length, fold, IfOk};
+ghost use Rattle.std.specs.Prelude.{◌≡◌, ◌++◌, List, length, fold, IfOk};
 ghost use Rattle.word_monoid.specs.Monoid.{IsItem};
 ghost use Rattle.word_monoid.specs.Folds.{fold_of};
 ghost use Rattle.scan_lookback.specs.Cuts.{Lifts, GivesItems, running};
@@ -24,7 +24,31 @@ pub(crate) fn fold_slice<T: Copy, M: WordMonoid, F: Fn(T) -> M::Item>(
     sum
 }
 
-// The joins of a start with what is made of the items before each.
+// The joins of a start with what is made of the items before each, right behind what is in the list. The answer is the join with all of
+// them.
+pub(crate) fn run_onto<T: Copy, M: WordMonoid, F: Fn(T) -> M::Item>(
+    monoid: &M,
+    part: &[T],
+    lift: &F,
+    start: M::Item,
+    out: &mut Vec<M::Item>,
+) -> Result<M::Item, AllocError>
+    requires callable { F.IsAlwaysCallable lift.now }
+    requires items { GivesItems (F.post lift.now) (M.ops monoid.now) part.now }
+    requires start { IsItem (M.ops monoid.now) start }
+    ensures listed { IfOk result (λ _. (lifted : List M.Item) → Lifts (F.post lift.now) part.now lifted → out.new.items ≡ out.old.items ++ running (M.ops monoid.now) start lifted) }
+    ensures joined { IfOk result (λ s. (lifted : List M.Item) → Lifts (F.post lift.now) part.now lifted → s ≡ fold (M.ops monoid.now).join start lifted) }
+    ensures item { IfOk result (λ s. IsItem (M.ops monoid.now) s) }
+{
+    let mut sum = start;
+    for x in part {
+        out.push(sum)?;
+        sum = monoid.join(sum, lift(*x));
+    }
+    Ok(sum)
+}
+
+// The same, as a list of their own.
 pub(crate) fn run_slice<T: Copy, M: WordMonoid, F: Fn(T) -> M::Item>(
     alloc: Global,
     monoid: &M,
@@ -37,12 +61,8 @@ pub(crate) fn run_slice<T: Copy, M: WordMonoid, F: Fn(T) -> M::Item>(
     requires start { IsItem (M.ops monoid.now) start }
     ensures { IfOk result (λ v. (lifted : List M.Item) → Lifts (F.post lift.now) part.now lifted → v.items ≡ running (M.ops monoid.now) start lifted) }
 {
-    let mut sum = start;
     let mut all = Vec::with_capacity(alloc, part.len())?;
-    for x in part {
-        all.push(sum)?;
-        sum = monoid.join(sum, lift(*x));
-    }
+    run_onto(monoid, part, lift, start, &mut all)?;
     Ok(all)
 }
 

@@ -1,0 +1,46 @@
+//! A scan by one worker.
+ghost use Rattle.std.specs.Prelude.{◌≡◌, ◌<◌, ◌≤◌, ◌^◌, length, IfOk};
+ghost use Rattle.chunk_seats.specs.Chunks.{chunk_count};
+ghost use Rattle.word_monoid.specs.Folds.{prefixes};
+ghost use Rattle.scan_lookback.specs.Cuts.{Scans};
+
+use crate::chunk::chunk_slice;
+use crate::span::run_onto;
+use crate::views::Chunks;
+use chunk_seats::{Gate, Plan};
+use std::alloc::{AllocError, Global};
+use word_monoid::WordMonoid;
+
+// All that one worker does alone: the joins before the items of each chunk in turn, right behind those of the chunk before. The gate is
+// told of each chunk.
+pub(crate) fn scan_alone<T: Copy, M: WordMonoid, N: Chunks<M::Item>, F: Fn(T) -> M::Item, G: Gate>(
+    alloc: Global,
+    plan: &Plan,
+    gate: &G,
+    monoid: &M,
+    items: &[T],
+    lift: &F,
+    count: usize,
+) -> Result<Vec<M::Item>, AllocError>
+    requires len { length items.now < 2 ^ 62 }
+    requires count { count ≡ chunk_count plan.now.chunk (length items.now) }
+    requires callable { F.IsAlwaysCallable lift.now }
+    requires scans { Scans (M.ops monoid.now) (F.post lift.now) plan.now.chunk items.now N.items N.sums }
+    ensures { IfOk result (λ v. v.items ≡ prefixes (M.ops monoid.now) N.items) }
+{
+    let mut out = Vec::with_capacity(alloc, items.len() + 1)?;
+    let mut sum = monoid.unit();
+    for c in 0..count as u64 {
+        gate.after_claim(0, Some(c));
+        sum = run_onto(
+            monoid,
+            chunk_slice(items, plan.chunk, c),
+            lift,
+            sum,
+            &mut out,
+        )?;
+    }
+    gate.after_claim(0, None);
+    out.push(sum)?;
+    Ok(out)
+}
