@@ -1,8 +1,5 @@
-use Rattle.std.proofs.Common.{◌≡◌, ℕ, List, Bool, length, map, drop, ap, ◌∙◌, arith}
-use Rattle.word_monoid.specs.Folds.{prefixes}
-use Rattle.state_monoid.specs.Numbering.{byte_number, composition}
+use Rattle.std.proofs.Common.{ℕ, List, length, map, drop, ap, ◌∙◌, arith}
 use Rattle.par_passes.proofs.Calling.{if_ok}
-use Rattle.par_lexer.specs.Reading.{begins}
 use Rattle.par_lexer.specs.Table.{is_begun_by}
 use Rattle.par_lexer.proofs.Running.{bytes_of, codes_begin, codes_many, all_but_first, places_begin}
 use Rattle.par_lexer.proofs.begun.begins_by_functions.Goals as goal

@@ -1,5 +1,4 @@
-use Rattle.std.proofs.Common.{◌≡◌, ℕ, length, ap, ◌∙◌, arith}
-use Rattle.par_lexer.specs.Reading.{begins}
+use Rattle.std.proofs.Common.{◌≡◌, length, ap, ◌∙◌, arith}
 use Rattle.par_lexer.proofs.Cutting.{marks_as_many}
 use Rattle.par_lexer.proofs.begun.begins_by_run.Goals as goal
 

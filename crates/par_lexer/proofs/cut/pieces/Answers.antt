@@ -2,8 +2,7 @@ use Rattle.std.proofs.Common.{◌≡◌, ◌+◌, ◌-◌, ◌≤◌, ℕ, List,
 use Rattle.std.specs.List.{range_with_len}
 use Rattle.std.proofs.lemmas.List.FromFn.{length-map-range_with_len}
 use Rattle.source_meaning.specs.Lexemes.{pieces}
-use Rattle.par_lexer.specs.declared.meanings.Meaning.{Meaning}
-use Rattle.par_lexer.specs.Spans.{boundaries, neighbours}
+use Rattle.par_lexer.specs.Spans.{neighbours}
 use Rattle.par_lexer.specs.PieceRows.{meaning_at}
 use Rattle.par_lexer.proofs.Cutting.{boundaries_length}
 use Rattle.par_lexer.proofs.Faulting.{few_pieces}

@@ -1,4 +1,4 @@
-use Rattle.std.proofs.Common.{◌≡◌, ℕ, List, map, fold, ap, ◌∙◌}
+use Rattle.std.proofs.Common.{◌≡◌, ℕ, List, fold, ap, ◌∙◌}
 use Rattle.std.specs.Prelude.{min}
 use Rattle.par_passes.proofs.Calling.{if_ok}
 use Rattle.par_lexer.specs.Spans.{places_where}

@@ -1,5 +1,4 @@
-use Rattle.std.proofs.Common.{◌≡◌, ℕ, List, map, filter, ◌∙◌}
-use Rattle.source_meaning.specs.declared.kinds.Terminal.{Terminal}
+use Rattle.std.proofs.Common.{◌≡◌, List, map, filter, ◌∙◌}
 use Rattle.ast_rows.specs.TokenRows.{token_rows}
 use Rattle.par_lexer.specs.declared.pieces.Piece.{Piece}
 use Rattle.par_lexer.specs.PieceRows.{is_token, kind_of}

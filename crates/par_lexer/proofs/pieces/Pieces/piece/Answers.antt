@@ -1,4 +1,4 @@
-use Rattle.std.proofs.Common.{◌≡◌, ◌+◌, ◌<◌, ℕ, List, length, ap, ◌∙◌, sym, arith}
+use Rattle.std.proofs.Common.{◌≡◌, List, length, ap, ◌∙◌, sym, arith}
 use Rattle.par_lexer.specs.declared.pieces.Piece.{Piece}
 use Rattle.par_lexer.specs.PieceRows.{rows, row_at}
 use Rattle.par_lexer.proofs.Rows.{as_many, row_read}
