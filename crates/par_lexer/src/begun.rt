@@ -75,7 +75,7 @@ fn begun_behind(alloc: Global, compositions: &Compositions) -> Result<Vec<bool>,
     Ok(begun)
 }
 
-// The places of the functions that the list marks.
+// The places where functions stand that the list marks.
 fn places_of<G: Gate, R: Threads + Sync>(
     rt: &R,
     alloc: Global,
@@ -112,7 +112,7 @@ fn begins_by_functions<G: Gate, R: Threads + Sync>(
 }
 
 // At which bytes pieces begin, by one run of the automaton.
-pub(crate) fn begins_in_turn(alloc: Global, dfa: &Dfa, text: &[u8]) -> Result<Vec<bool>, AllocError>
+fn begins_in_turn(alloc: Global, dfa: &Dfa, text: &[u8]) -> Result<Vec<bool>, AllocError>
     requires automaton { dfa.now ≡ lexer }
     ensures { IfOk result (λ v. v.items ≡ begins_of text.now) }
 {
@@ -125,7 +125,7 @@ pub(crate) fn begins_in_turn(alloc: Global, dfa: &Dfa, text: &[u8]) -> Result<Ve
     Ok(begins)
 }
 
-// The same of a text's marks.
+// The places of the true marks.
 fn places_of_marks<G: Gate, R: Threads + Sync>(
     rt: &R,
     alloc: Global,
@@ -140,7 +140,7 @@ fn places_of_marks<G: Gate, R: Threads + Sync>(
 }
 
 // The places at which pieces begin, by one run of the automaton.
-fn begins_by_run<G: Gate, R: Threads + Sync>(
+pub(crate) fn begins_by_run<G: Gate, R: Threads + Sync>(
     rt: &R,
     alloc: Global,
     plan: &Plan,
