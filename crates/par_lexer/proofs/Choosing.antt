@@ -39,23 +39,6 @@ places_within keep xs =
     let many : length (map keep xs) ≡ length xs = length-map xs keep in
     subst (λ (n : ℕ). All (λ k. k < length xs) (marked (range_with_len 0 n) (map keep xs))) many (within_from 0 (map keep xs) (length xs) (omega arith))
 
--- no more than the items
-few_from : (at : ℕ) (bs : List Bool) → length (from_place at bs) ≤ length bs
-few_from at [] = omega arith
-few_from at (b ∷ bs) = subst (λ (l : List ℕ). length l ≤ suc (length bs)) (sym (marked_next at b (range_with_len (at + 1) (length bs)) bs)) (go b (few_from (at + 1) bs))
-  where
-    rest : List ℕ
-    rest = from_place (at + 1) bs
-
-    go : (b : Bool) → length rest ≤ length bs → length (cond b (at ∷ rest) rest) ≤ suc (length bs)
-    go true h = omega arith
-    go false h = omega arith
-
-pub few_places : {T : Type 0} (keep : T → Bool) (xs : List T) → length (places_where keep xs) ≤ length xs
-few_places keep xs =
-    let many : length (map keep xs) ≡ length xs = length-map xs keep in
-    subst (λ (n : ℕ). length (marked (range_with_len 0 n) (map keep xs)) ≤ n) many (few_from 0 (map keep xs))
-
 -- ---- what they are of lists that are made of others
 
 pub map_map : {X Y Z : Type 0} (g : Y → Z) (f : X → Y) (xs : List X) → map g (map f xs) ≡ map (λ x. g (f x)) xs
