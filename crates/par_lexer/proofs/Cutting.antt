@@ -1,18 +1,14 @@
 -- The places at which the automaton begins a piece are those of the pieces of the text.
-use Rattle.std.proofs.Common.{◌≡◌, ℕ, suc, ◌+◌, ◌<◌, arith, Bool, true, false, cond, List, [], ◌∷◌, ◌++◌, length, get_or, refl, ap, ◌∙◌}
+use Rattle.std.proofs.Common.{◌≡◌, ℕ, suc, ◌+◌, ◌<◌, arith, Bool, true, false, cond, List, [], ◌∷◌, ◌++◌, length, get_or, refl, sym, ap, ◌∙◌}
 use Rattle.std.specs.List.{range_with_len}
 use Rattle.std.proofs.lemmas.List.{length-append}
 use Rattle.std.proofs.lemmas.List.FromFn.{length-range_with_len, get_or-range_with_len}
 use Rattle.source_meaning.specs.Lexemes.{is_lexeme, pieces_from, pieces}
 use Rattle.par_passes.specs.Passes.{marked}
 use Rattle.par_lexer.specs.Reading.{is_begun, first_state, next_state, begins_from, begins}
-use Rattle.par_lexer.specs.Spans.{boundaries}
+use Rattle.par_lexer.specs.Spans.{boundaries, places_where}
+use Rattle.par_lexer.proofs.Choosing.{marked_next, ended, places_marked}
 use Rattle.par_lexer.proofs.Growing.{state_of, is_so_far, GoesOn, EndsBefore, goes_on_is, ends_before, first_begins}
-
--- one item more is kept where its mark is true
-marked_next : (k : ℕ) (b : Bool) (ks : List ℕ) (bs : List Bool) → marked (k ∷ ks) (b ∷ bs) ≡ cond b (k ∷ marked ks bs) (marked ks bs)
-marked_next k true ks bs = refl
-marked_next k false ks bs = refl
 
 -- the places from one on that are marked
 abbrev kept : ℕ → ℕ → List Bool → List ℕ
@@ -62,16 +58,18 @@ begins_length : (text : List ℕ) (s : ℕ) → length (begins_from s text) ≡ 
 begins_length [] s = refl
 begins_length (c ∷ cs) s = let e : length (begins_from (next_state s c) cs) ≡ length cs = begins_length cs (next_state s c) in omega arith
 
--- the marks are as many as the places from the first byte to the end
-pub marks_as_many : (text : List ℕ) → length (begins text ++ true ∷ []) ≡ length (range_with_len 0 (length text + 1))
-marks_as_many text =
-    let marks : length (begins text ++ true ∷ []) ≡ length (begins text) + 1 = length-append (begins text) (true ∷ []) in
-    let places : length (range_with_len 0 (length text + 1)) ≡ length text + 1 = length-range_with_len 0 (length text + 1) in
-    let same : length (begins text) ≡ length text = begins_length text 0 in
-    omega arith
+pub marks_as_many : (text : List ℕ) → length (begins text) ≡ length text
+marks_as_many text = begins_length text 0
 
-pub boundaries_at : (text : List ℕ) → marked (range_with_len 0 (length text + 1)) (begins text ++ true ∷ []) ≡ boundaries 0 (pieces text)
-boundaries_at text = let one : length text + 1 ≡ suc (length text) = omega arith in ap (λ (n : ℕ). marked (range_with_len 0 n) (begins text ++ true ∷ [])) one ∙ boundaries_are text
+-- with the end of the text behind the places of the marks
+pub boundaries_at : (text : List ℕ) → places_where (λ b. b) (begins text) ++ length text ∷ [] ≡ boundaries 0 (pieces text)
+boundaries_at text =
+    let many : length (begins text) ≡ length text = begins_length text 0 in
+    let end : length text ≡ 0 + length (begins text) = omega arith in
+    let all : marked (range_with_len 0 (suc (length (begins text)))) (begins text ++ true ∷ []) ≡ marked (range_with_len 0 (length (begins text))) (begins text) ++ (0 + length (begins text)) ∷ [] = ended 0 (begins text) in
+    (λ i. places_marked (begins text) i ++ end i ∷ [])
+    ∙ (sym all
+    ∙ (ap (λ (n : ℕ). marked (range_with_len 0 (suc n)) (begins text ++ true ∷ [])) many ∙ boundaries_are text))
 
 pub boundaries_length : (at : ℕ) (ps : List (List ℕ)) → length (boundaries at ps) ≡ length ps + 1
 boundaries_length at [] = refl

@@ -88,10 +88,3 @@ rows_are (p ∷ ps) before text e h =
 -- the rows of a text, from the places
 pub text_rows : (text : List ℕ) → flat_map (λ l. l) (pieces text) ≡ text → map (neighbours (piece_at text) (boundaries 0 (pieces text))) (range_with_len 0 (length (pieces text))) ≡ rows_from 0 (pieces text)
 text_rows text joined = spans_are (piece_at text) 0 (pieces text) ∙ rows_are (pieces text) [] text (sym joined) (are_pieces text)
-
-range_more_from : (n a : ℕ) → range_with_len a (suc n) ≡ range_with_len a n ++ (a + n) ∷ []
-range_more_from zero a = let e : a ≡ a + 0 = omega arith in ap (λ (k : ℕ). k ∷ []) e
-range_more_from (suc n) a = let e : a + 1 + n ≡ a + suc n = omega arith in ap (λ (l : List ℕ). a ∷ l) (range_more_from n (a + 1) ∙ ap (λ (k : ℕ). range_with_len (a + 1) n ++ k ∷ []) e)
-
-pub numbers_more : (n : ℕ) → range_with_len 0 (n + 1) ≡ range_with_len 0 n ++ n ∷ []
-numbers_more n = let e : n + 1 ≡ suc n = omega arith in let z : 0 + n ≡ n = omega arith in ap (range_with_len 0) e ∙ (range_more_from n 0 ∙ ap (λ (k : ℕ). range_with_len 0 n ++ k ∷ []) z)

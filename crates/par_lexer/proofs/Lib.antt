@@ -1,11 +1,13 @@
 mod FirstBytes
 mod Growing
+mod Choosing
 mod Cutting
 mod Values
 mod Telling
 mod Laying
 mod Faulting
 mod Keying
+mod Rows
 mod Keeping
 mod Running
 mod Fronts

@@ -1,8 +1,9 @@
 -- The automaton's runs over the beginnings of a text.
-use Rattle.std.proofs.Common.{◌≡◌, ℕ, zero, suc, ◌+◌, ◌-◌, ◌*◌, ◌%◌, ◌/◌, ◌<◌, ◌≤◌, arith, Bool, true, false, cond, List, [], ◌∷◌, ◌++◌, Some, length, map, take, drop, get_or, slice_get, All, refl, sym, ap, ◌∙◌, subst, append_assoc, Fits, w8}
-use Rattle.std.specs.Prelude.{◌&&◌, ◌||◌, ◌==◌, nat_lt, slice_index}
+use Rattle.std.proofs.Common.{◌≡◌, ℕ, suc, ◌+◌, ◌-◌, ◌*◌, ◌%◌, ◌/◌, ◌<◌, ◌≤◌, arith, Bool, true, false, cond, List, [], ◌∷◌, ◌++◌, Some, length, map, take, drop, get_or, slice_get, All, refl, sym, ap, ◌∙◌, subst, append_assoc, Fits, w8, ⊎_elim}
+use Rattle.std.specs.Prelude.{◌&&◌, ◌||◌, ◌==◌, nat_lt, slice_index, slice_index_or}
 use Rattle.std.specs.List.{range_with_len}
-use Rattle.std.proofs.lemmas.Bool.{lt-ltb}
+use Rattle.std.proofs.lemmas.Bool.{lt-ltb, cases_lt}
+use Rattle.std.proofs.lemmas.Bool.Decides.{nat_tests}
 use Rattle.std.proofs.lemmas.List.{length-map}
 use Rattle.std.proofs.lemmas.List.FromFn.{length-map-range_with_len, get_or-map-range_with_len}
 use Rattle.word_monoid.specs.Folds.{prefix_of, prefixes}
@@ -13,13 +14,17 @@ use Rattle.state_monoid.specs.Image.{image}
 use Rattle.state_monoid.specs.Numbering.{Numbering, function_of, byte_number, composition}
 use Rattle.std.proofs.Math.Logic.{∥∥₁_elim}
 use Rattle.std.proofs.Math.Seq.{drop-cons}
+use Rattle.std.proofs.Math.ListN.{get_or-eq_default}
 use mathlib.Core.Bool.{Bool-set}
 use Rattle.state_monoid.specs.Lawful.{member_at}
 use Rattle.state_monoid.proofs.Searching.{one_byte}
 use Rattle.state_monoid.proofs.Prefixes.{prefix_function, prefix_state}
 use Rattle.par_lexer.specs.Reading.{word, number, white, comment, pair, letter, digit, blank, single, equals, less, greater, ampersand, bar, slash, is_begun, first_state, goes_on, onward, next_state, begins_from, begins}
 use Rattle.par_lexer.specs.Table.{cell, lexer_table, lexer, is_begun_by}
+use Rattle.par_lexer.specs.Spans.{places_where}
 use Rattle.par_lexer.proofs.Laying.{shifted_range}
+use Rattle.par_lexer.proofs.Choosing.{any_default, map_map, places_of_marks}
+use Rattle.par_lexer.proofs.Rows.{same_on_range}
 
 -- ---- the table
 
@@ -97,11 +102,6 @@ begins_by_runs (c ∷ cs) s h w =
     ∙ (ap (λ (t : ℕ). is_begun (step lexer s c) ∷ map (λ k. is_begun (run lexer t (take (suc k) cs))) (range_with_len 0 (length cs))) (sym here)
     ∙ ap (λ (l : List Bool). is_begun (step lexer s c) ∷ l) (sym (shifted_range (λ k. is_begun (run lexer s (take (suc k) (c ∷ cs)))) 0 (length cs))))
 
--- functions that agree at the places of a range
-same_on_range : {T : Type 0} (f g : ℕ → T) (n from : ℕ) → ((k : ℕ) → k < from + n → f k ≡ g k) → map f (range_with_len from n) ≡ map g (range_with_len from n)
-same_on_range f g zero from h = refl
-same_on_range f g (suc n) from h = λ i. h from (omega arith) i ∷ same_on_range f g n (from + 1) (λ k l. h k (omega arith)) i
-
 code_begins : (m : Numbering) (text : List ℕ) (i : ℕ) → i ≤ length text → m.automaton ≡ lexer → IsWord text → is_begun_by m (prefix_of (composition m) (map (byte_number m) text) i) ≡ is_begun (run lexer 0 (take i text))
 code_begins m text i within e w =
     let items : List ℕ = map (byte_number m) text in
@@ -122,20 +122,35 @@ codes_begin m text e w =
     ∙ (ap (λ (n : ℕ). map (λ k. is_begun_by m (prefix_of (composition m) items (suc k))) (range_with_len 0 n)) many
     ∙ (same_on_range (λ k. is_begun_by m (prefix_of (composition m) items (suc k))) (λ k. is_begun (run lexer 0 (take (suc k) text))) (length text) 0 (λ k h. code_begins m text (suc k) (omega arith) e w)
     ∙ sym (begins_by_runs text 0 (omega arith) w))))
-  where
-    map_map : {X Y Z : Type 0} (g : Y → Z) (f : X → Y) (xs : List X) → map g (map f xs) ≡ map (λ x. g (f x)) xs
-    map_map g f [] = refl
-    map_map g f (x ∷ xs) = ap (λ l. g (f x) ∷ l) (map_map g f xs)
+
+-- they are as many as the bytes
+pub codes_many : (m : Numbering) (text : List ℕ) → length (drop 1 (prefixes (composition m) (map (byte_number m) text))) ≡ length text
+codes_many m text = length-map-range_with_len (prefix_of (composition m) (map (byte_number m) text)) 1 (length (map (byte_number m) text)) ∙ length-map text (byte_number m)
+
+-- the list of what each function says
+begun_is : (m : Numbering) (begun : List Bool) → begun ≡ map (is_begun_by m) (range_with_len 0 (length m.functions)) → (code : ℕ) → slice_index_or begun code false ≡ is_begun_by m code
+begun_is m begun e code = ap (λ (l : List Bool). slice_index_or l code false) e ∙ ⊎_elim
+    (λ (h : code < length m.functions). get_or-map-range_with_len (is_begun_by m) 0 (length m.functions) code code false h (omega arith))
+    (λ (h : length m.functions ≤ code).
+    let many : length (map (is_begun_by m) (range_with_len 0 (length m.functions))) ≡ length m.functions = length-map-range_with_len (is_begun_by m) 0 (length m.functions) in
+    let none : nat_lt code (length m.functions) ≡ false = grind (arith, nat_tests) in
+    get_or-eq_default (map (is_begun_by m) (range_with_len 0 (length m.functions))) false (omega arith) ∙ sym (ap (λ b. b && is_begun (slice_index (function_of m code) 0)) none))
+    (cases_lt code (length m.functions))
+
+map_as : {X Y : Type 0} (f g : X → Y) → ((x : X) → f x ≡ g x) → (xs : List X) → map f xs ≡ map g xs
+map_as f g e [] = refl
+map_as f g e (x ∷ xs) = λ i. e x i ∷ map_as f g e xs i
+
+pub places_begin : (m : Numbering) (begun : List Bool) (codes text : List ℕ) → begun ≡ map (is_begun_by m) (range_with_len 0 (length m.functions)) → map (is_begun_by m) codes ≡ begins text
+    → places_where (λ code. slice_index_or begun code false) codes ≡ places_where (λ b. b) (begins text)
+places_begin m begun codes text e h =
+    places_of_marks (λ code. slice_index_or begun code false) codes
+    ∙ ap (places_where (λ b. b)) (map_as (λ code. slice_index_or begun code false) (is_begun_by m) (begun_is m begun e) codes ∙ h)
 
 -- ---- what the functions' numbers and one run of the automaton need
 
-any_default : (xs : List ℕ) (k d : ℕ) → k < length xs → get_or xs k d ≡ get_or xs k 0
-any_default [] k d h = absurd (omega arith)
-any_default (x ∷ xs) zero d h = refl
-any_default (x ∷ xs) (suc k) d h = any_default xs k d (omega arith)
-
 pub bytes_of : (xs : List ℕ) → ((i : ℕ) → Fits w8 (get_or xs i 0)) → Bytes xs
-bytes_of xs fits k d h = let byte : get_or xs k 0 < 256 = omega (arith, fits k) in subst (λ (b : ℕ). b < 256) (sym (any_default xs k d h)) byte
+bytes_of xs fits k d h = let byte : get_or xs k 0 < 256 = omega (arith, fits k) in subst (λ (b : ℕ). b < 256) (sym (any_default xs k d 0 h)) byte
 
 pub byte_is_item : (m : Numbering) (b : ℕ) → b < 256 → nat_lt (byte_number m b) (length m.functions) ≡ true
 byte_is_item m b h = ∥∥₁_elim m.numbers_all (Bool-set _ _) (λ all.

@@ -1,13 +1,15 @@
-//! At which bytes of a text pieces begin: by the functions of its beginnings, or by one run of the automaton.
-ghost use Rattle.std.specs.Prelude.{◌≡◌, ◌<◌, ◌≤◌, ◌^◌, ◌++◌, [], ◌∷◌, true, length, map, drop, IfOk, IfErr};
+//! At which bytes of a text pieces begin, by the functions of its beginnings, or by one run of the automaton.
+ghost use Rattle.std.specs.Prelude.{◌≡◌, ◌<◌, ◌≤◌, ◌^◌, false, length, map, slice_index_or, IfOk};
+ghost use Rattle.std.specs.List.{range_with_len};
 ghost use Rattle.word_monoid.specs.Folds.{prefixes};
 ghost use Rattle.state_monoid.specs.Numbering.{byte_number, composition};
 ghost use Rattle.par_lexer.specs.Reading.{begins as begins_of};
 ghost use Rattle.par_lexer.specs.Table.{lexer, is_begun_by};
+ghost use Rattle.par_lexer.specs.Spans.{places_where};
 
 use crate::automaton::{NOTHING, automaton, is_begun};
 use chunk_seats::{Gate, Plan};
-use par_passes::map;
+use par_passes::positions;
 use scan_lookback::{Lift, scan_lifted};
 use state_monoid::{BuildFault, Compositions, Dfa};
 use std::alloc::{AllocError, Global};
@@ -61,25 +63,37 @@ fn is_begun_behind(compositions: &Compositions, code: u16) -> bool
         && is_begun(compositions.apply(code, u32::from(NOTHING)) as u8)
 }
 
-// The same for a list of functions.
-fn marks<G: Gate, R: Threads + Sync>(
+// For each function whether the byte behind which it stands begins a piece.
+fn begun_behind(alloc: Global, compositions: &Compositions) -> Result<Vec<bool>, AllocError>
+    ensures { IfOk result (λ v. v.items ≡ map (is_begun_by compositions.now) (range_with_len 0 (length compositions.now.functions))) }
+{
+    let count = compositions.count();
+    let mut begun = Vec::with_capacity(alloc, count as usize)?;
+    for code in 0..count {
+        begun.push(is_begun_behind(compositions, code as u16))?;
+    }
+    Ok(begun)
+}
+
+// The places where functions stand that the list marks.
+fn places_of<G: Gate, R: Threads + Sync>(
     rt: &R,
     alloc: Global,
     plan: &Plan,
     gate: &G,
-    compositions: &Compositions,
+    begun: &[bool],
     codes: &[u16],
-) -> Result<Vec<bool>, AllocError>
-    requires len { length codes.now < 2 ^ 62 }
-    ensures { IfOk result (λ v. v.items ≡ map (is_begun_by compositions.now) codes.now) }
+) -> Result<Vec<u32>, AllocError>
+    requires len { length codes.now ≤ 2 ^ 32 }
+    ensures { IfOk result (λ v. v.items ≡ places_where (λ code. slice_index_or begun.now code false) codes.now) }
 {
     let behind = |code: u16| -> bool
-        ensures { result ≡ is_begun_by compositions.entry.now code }
-    { is_begun_behind(compositions, code) };
-    map(rt, alloc, plan, gate, codes, &behind)
+        ensures { result ≡ slice_index_or begun.entry.now code false }
+    { begun.get(code as usize).copied().unwrap_or(false) };
+    positions(rt, alloc, plan, gate, codes, &behind)
 }
 
-// At which bytes pieces begin, by the functions of the beginnings of the text.
+// The places at which pieces begin, by the functions of the beginnings of the text.
 fn begins_by_functions<G: Gate, R: Threads + Sync>(
     rt: &R,
     alloc: Global,
@@ -87,17 +101,18 @@ fn begins_by_functions<G: Gate, R: Threads + Sync>(
     gate: &G,
     functions: &ByFunctions,
     text: &[u8],
-) -> Result<Vec<bool>, AllocError>
-    requires len { length text.now < 2 ^ 62 }
+) -> Result<Vec<u32>, AllocError>
+    requires len { length text.now ≤ 2 ^ 32 }
     requires automaton { functions.now.compositions.automaton ≡ lexer }
-    ensures { IfOk result (λ v. v.items ≡ begins_of text.now) }
+    ensures { IfOk result (λ v. v.items ≡ places_where (λ b. b) (begins_of text.now)) }
 {
     let codes = codes(rt, alloc, plan, gate, functions, text)?;
-    marks(rt, alloc, plan, gate, &functions.compositions, &codes[1..])
+    let begun = begun_behind(alloc, &functions.compositions)?;
+    places_of(rt, alloc, plan, gate, begun.as_slice(), &codes[1..])
 }
 
-// The same by one run of the automaton.
-pub(crate) fn begins_in_turn(alloc: Global, dfa: &Dfa, text: &[u8]) -> Result<Vec<bool>, AllocError>
+// At which bytes pieces begin, by one run of the automaton.
+fn begins_in_turn(alloc: Global, dfa: &Dfa, text: &[u8]) -> Result<Vec<bool>, AllocError>
     requires automaton { dfa.now ≡ lexer }
     ensures { IfOk result (λ v. v.items ≡ begins_of text.now) }
 {
@@ -110,16 +125,47 @@ pub(crate) fn begins_in_turn(alloc: Global, dfa: &Dfa, text: &[u8]) -> Result<Ve
     Ok(begins)
 }
 
-// At which bytes pieces begin. Where the automaton's functions are too many to be numbered, which they aren't, one run of it answers.
+// The places of the true marks.
+fn places_of_marks<G: Gate, R: Threads + Sync>(
+    rt: &R,
+    alloc: Global,
+    plan: &Plan,
+    gate: &G,
+    marks: &[bool],
+) -> Result<Vec<u32>, AllocError>
+    requires len { length marks.now ≤ 2 ^ 32 }
+    ensures { IfOk result (λ v. v.items ≡ places_where (λ b. b) marks.now) }
+{
+    positions(rt, alloc, plan, gate, marks, &|mark: bool| mark)
+}
+
+// The places at which pieces begin, by one run of the automaton.
+pub(crate) fn begins_by_run<G: Gate, R: Threads + Sync>(
+    rt: &R,
+    alloc: Global,
+    plan: &Plan,
+    gate: &G,
+    dfa: &Dfa,
+    text: &[u8],
+) -> Result<Vec<u32>, AllocError>
+    requires len { length text.now ≤ 2 ^ 32 }
+    requires automaton { dfa.now ≡ lexer }
+    ensures { IfOk result (λ v. v.items ≡ places_where (λ b. b) (begins_of text.now)) }
+{
+    let marks = begins_in_turn(alloc, dfa, text)?;
+    places_of_marks(rt, alloc, plan, gate, marks.as_slice())
+}
+
+// The places at which pieces begin. Where the automaton's functions are too many to be numbered, which they aren't, one run of it answers.
 pub(crate) fn begins<G: Gate, R: Threads + Sync>(
     rt: &R,
     alloc: Global,
     plan: &Plan,
     gate: &G,
     text: &[u8],
-) -> Result<Vec<bool>, AllocError>
-    requires len { length text.now < 2 ^ 62 }
-    ensures { IfOk result (λ v. v.items ≡ begins_of text.now) }
+) -> Result<Vec<u32>, AllocError>
+    requires len { length text.now ≤ 2 ^ 32 }
+    ensures { IfOk result (λ v. v.items ≡ places_where (λ b. b) (begins_of text.now)) }
 {
     let dfa = automaton(alloc)?;
     match Compositions::build(alloc, &dfa) {
@@ -127,7 +173,9 @@ pub(crate) fn begins<G: Gate, R: Threads + Sync>(
             let functions = ByFunctions { compositions };
             begins_by_functions(rt, alloc, plan, gate, &functions, text)
         }
-        Err(BuildFault::TooMany { reached: _ }) => begins_in_turn(alloc, &dfa, text),
+        Err(BuildFault::TooMany { reached: _ }) => {
+            begins_by_run(rt, alloc, plan, gate, &dfa, text)
+        }
         Err(BuildFault::NoMemory) => Err(AllocError),
     }
 }

@@ -3,25 +3,15 @@ ghost use Rattle.std.specs.Prelude.{◌≡◌, ◌+◌, ◌-◌, ◌<◌, ◌≤
 ghost use Rattle.std.specs.List.{range_with_len};
 ghost use Rattle.source_meaning.specs.Lexemes.{pieces as pieces_of};
 ghost use Rattle.par_lexer.specs.Spans.{boundaries as boundaries_of, neighbours};
-ghost use Rattle.par_lexer.specs.PieceRows.{piece_at, rows_from};
+ghost use Rattle.par_lexer.specs.PieceRows.{meaning_at, rows_from};
 
 use crate::begun::begins;
-use crate::pieces::{Piece, between};
+use crate::meanings::Meaning;
+use crate::pieces::{Pieces, meaning_between};
 use chunk_seats::{Gate, Plan};
-use par_passes::{compact, map};
+use par_passes::tabulate;
 use std::alloc::{AllocError, Global};
 use std::thread::Threads;
-
-// The numbers below a bound.
-fn numbers(alloc: Global, count: u32) -> Result<Vec<u32>, AllocError>
-    ensures { IfOk result (λ v. v.items ≡ range_with_len 0 count) }
-{
-    let mut numbers = Vec::with_capacity(alloc, count as usize)?;
-    for number in 0..count {
-        numbers.push(number)?;
-    }
-    Ok(numbers)
-}
 
 // The places where pieces begin, and the end of the text.
 fn boundaries<G: Gate, R: Threads + Sync>(
@@ -34,14 +24,13 @@ fn boundaries<G: Gate, R: Threads + Sync>(
     requires len { length text.now ≤ 2 ^ 24 }
     ensures { IfOk result (λ v. v.items ≡ boundaries_of 0 (pieces_of text.now)) }
 {
-    let mut marks = begins(rt, alloc, plan, gate, text)?;
-    marks.push(true)?;
-    let places = numbers(alloc, text.len() as u32 + 1)?;
-    compact(rt, alloc, plan, gate, places.as_slice(), marks.as_slice())
+    let mut bounds = begins(rt, alloc, plan, gate, text)?;
+    bounds.push(text.len() as u32)?;
+    Ok(bounds)
 }
 
-// The piece between each place and the next one.
-fn pieces_between<G: Gate, R: Threads + Sync>(
+// What the piece between each place and the next one is.
+fn meanings<G: Gate, R: Threads + Sync>(
     rt: &R,
     alloc: Global,
     plan: &Plan,
@@ -49,16 +38,15 @@ fn pieces_between<G: Gate, R: Threads + Sync>(
     text: &[u8],
     bounds: &[u32],
     count: u32,
-) -> Result<Vec<Piece>, AllocError>
+) -> Result<Vec<Meaning>, AllocError>
     requires bounds { length bounds.now ≡ count + 1 }
-    ensures { IfOk result (λ v. v.items ≡ map (neighbours (piece_at text.now) bounds.now) (range_with_len 0 count)) }
+    ensures { IfOk result (λ v. v.items ≡ map (neighbours (meaning_at text.now) bounds.now) (range_with_len 0 count)) }
 {
-    let numbers = numbers(alloc, count)?;
-    let at = |k: u32| -> Piece
+    let at = |k: u32| -> Meaning
         requires { k + 1 < length bounds.now }
-        ensures { result ≡ neighbours (piece_at text.entry.now) bounds.entry.now k }
-    { between(text, bounds[k as usize], bounds[k as usize + 1]) };
-    map(rt, alloc, plan, gate, numbers.as_slice(), &at)
+        ensures { result ≡ neighbours (meaning_at text.entry.now) bounds.entry.now k }
+    { meaning_between(text, bounds[k as usize], bounds[k as usize + 1]) };
+    tabulate(rt, alloc, plan, gate, count, &at)
 }
 
 // The pieces of a text.
@@ -68,11 +56,12 @@ pub(crate) fn pieces<G: Gate, R: Threads + Sync>(
     plan: &Plan,
     gate: &G,
     text: &[u8],
-) -> Result<Vec<Piece>, AllocError>
+) -> Result<Pieces, AllocError>
     requires len { length text.now ≤ 2 ^ 24 }
-    ensures { IfOk result (λ v. v.items ≡ rows_from 0 (pieces_of text.now)) }
+    ensures { IfOk result (λ p. p ≡ rows_from 0 (pieces_of text.now)) }
 {
     let bounds = boundaries(rt, alloc, plan, gate, text)?;
     let count = bounds.len() as u32 - 1;
-    pieces_between(rt, alloc, plan, gate, text, bounds.as_slice(), count)
+    let meanings = meanings(rt, alloc, plan, gate, text, bounds.as_slice(), count)?;
+    Ok(Pieces::new(bounds, meanings))
 }

@@ -1,11 +1,12 @@
 //! The first fault of a text's pieces.
-ghost use Rattle.std.specs.Prelude.{◌≡◌, ◌<◌, ◌^◌, length, map, fold, min, IfOk, option_map};
-ghost use Rattle.par_lexer.specs.PieceRows.{fault_key, fault_of_key, no_fault};
+ghost use Rattle.std.specs.Prelude.{◌≡◌, ◌<◌, ◌≤◌, ◌^◌, length, All, map, fold, min, IfOk, option_map};
+ghost use Rattle.par_lexer.specs.Spans.{places_where};
+ghost use Rattle.par_lexer.specs.PieceRows.{is_fault as has_fault, row_at, fault_key, fault_of_key, no_fault};
 
 use crate::meanings::Meaning;
-use crate::pieces::Piece;
+use crate::pieces::{Piece, Pieces};
 use chunk_seats::{Gate, Plan};
-use par_passes::{least, map};
+use par_passes::{least, map, positions};
 use std::alloc::{AllocError, Global};
 use std::thread::Threads;
 
@@ -20,6 +21,16 @@ const NO_LEXEME: u64 = 101;
 
 const TOO_LARGE: u64 = 102;
 
+// Whether a piece has a fault.
+fn is_fault(meaning: Meaning) -> bool
+    ensures { result ≡ has_fault meaning }
+{
+    match meaning {
+        Meaning::NoLexeme | Meaning::TooLarge => true,
+        Meaning::Passed | Meaning::Token(_) => false,
+    }
+}
+
 // A piece's diagnostic as a number, in the order of the places.
 fn key(piece: Piece) -> u64
     ensures { result ≡ fault_key piece }
@@ -31,18 +42,45 @@ fn key(piece: Piece) -> u64
     }
 }
 
-// The keys of pieces.
+// The numbers of the pieces that have a fault.
+fn faulty<G: Gate, R: Threads + Sync>(
+    rt: &R,
+    alloc: Global,
+    plan: &Plan,
+    gate: &G,
+    meanings: &[Meaning],
+) -> Result<Vec<u32>, AllocError>
+    requires len { length meanings.now ≤ 2 ^ 32 }
+    ensures { IfOk result (λ v. v.items ≡ places_where has_fault meanings.now) }
+{
+    positions(
+        rt,
+        alloc,
+        plan,
+        gate,
+        meanings,
+        &|meaning: Meaning| is_fault(meaning),
+    )
+}
+
+// The keys of the pieces with these numbers.
 fn keys<G: Gate, R: Threads + Sync>(
     rt: &R,
     alloc: Global,
     plan: &Plan,
     gate: &G,
-    pieces: &[Piece],
+    pieces: &Pieces,
+    numbers: &[u32],
 ) -> Result<Vec<u64>, AllocError>
-    requires len { length pieces.now < 2 ^ 62 }
-    ensures { IfOk result (λ v. v.items ≡ map fault_key pieces.now) }
+    requires len { length numbers.now < 2 ^ 62 }
+    requires inside { All (λ k. k < length pieces.now) numbers.now }
+    ensures { IfOk result (λ v. v.items ≡ map (λ k. fault_key (row_at pieces.now k)) numbers.now) }
 {
-    map(rt, alloc, plan, gate, pieces, &|piece: Piece| key(piece))
+    let key_of = |k: u32| -> u64
+        requires { k < length pieces.now }
+        ensures { result ≡ fault_key (row_at pieces.entry.now k) }
+    { key(pieces.piece(k)) };
+    map(rt, alloc, plan, gate, numbers, &key_of)
 }
 
 // The least key of pieces.
@@ -51,12 +89,13 @@ pub(crate) fn least_key<G: Gate, R: Threads + Sync>(
     alloc: Global,
     plan: &Plan,
     gate: &G,
-    pieces: &[Piece],
+    pieces: &Pieces,
 ) -> Result<u64, AllocError>
-    requires len { length pieces.now < 2 ^ 62 }
+    requires len { length pieces.now ≤ 2 ^ 32 }
     ensures { IfOk result (λ m. m ≡ fold min no_fault (map fault_key pieces.now)) }
 {
-    let keys = keys(rt, alloc, plan, gate, pieces)?;
+    let faulty = faulty(rt, alloc, plan, gate, pieces.meanings())?;
+    let keys = keys(rt, alloc, plan, gate, pieces, faulty.as_slice())?;
     least(rt, alloc, plan, gate, keys.as_slice())
 }
 

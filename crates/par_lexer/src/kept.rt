@@ -1,112 +1,116 @@
 //! The tokens among the pieces of a text.
-ghost use Rattle.std.specs.Prelude.{◌≡◌, ◌<◌, ◌^◌, length, map, filter, IfOk};
-ghost use Rattle.par_lexer.specs.PieceRows.{is_token as is_kept, kind_of as terminal_of_piece, columns};
+ghost use Rattle.std.specs.Prelude.{◌≡◌, ◌<◌, ◌≤◌, ◌^◌, length, All, map, IfOk};
+ghost use Rattle.par_lexer.specs.Spans.{places_where};
+ghost use Rattle.par_lexer.specs.PieceRows.{is_token as is_kept, kind_of as terminal_of_piece, row_at, columns};
 
 use crate::meanings::Meaning;
-use crate::pieces::Piece;
+use crate::pieces::Pieces;
 use ast_rows::Tokens;
 use chunk_seats::{Gate, Plan};
-use par_passes::{compact, map};
+use par_passes::{map, positions};
 use source_meaning::Terminal;
 use std::alloc::{AllocError, Global};
 use std::thread::Threads;
 
 // Whether a piece is a token.
-fn is_token(piece: Piece) -> bool
-    ensures { result ≡ is_kept piece }
+fn is_token(meaning: Meaning) -> bool
+    ensures { result ≡ is_kept meaning }
 {
-    match piece.meaning {
+    match meaning {
         Meaning::Token(_) => true,
         Meaning::Passed | Meaning::NoLexeme | Meaning::TooLarge => false,
     }
 }
 
 // The terminal of a token.
-fn kind(piece: Piece) -> Terminal
-    ensures { result ≡ terminal_of_piece piece }
+fn kind(meaning: Meaning) -> Terminal
+    ensures { result ≡ terminal_of_piece meaning }
 {
-    match piece.meaning {
+    match meaning {
         Meaning::Token(terminal) => terminal,
         Meaning::Passed | Meaning::NoLexeme | Meaning::TooLarge => Terminal::Ident,
     }
 }
 
-// Which pieces are tokens.
-fn marks<G: Gate, R: Threads + Sync>(
-    rt: &R,
-    alloc: Global,
-    plan: &Plan,
-    gate: &G,
-    pieces: &[Piece],
-) -> Result<Vec<bool>, AllocError>
-    requires len { length pieces.now < 2 ^ 62 }
-    ensures { IfOk result (λ v. v.items ≡ map is_kept pieces.now) }
-{
-    map(
-        rt,
-        alloc,
-        plan,
-        gate,
-        pieces,
-        &|piece: Piece| is_token(piece),
-    )
-}
-
-// The pieces that are tokens.
+// The numbers of the pieces that are tokens.
 fn kept<G: Gate, R: Threads + Sync>(
     rt: &R,
     alloc: Global,
     plan: &Plan,
     gate: &G,
-    pieces: &[Piece],
-) -> Result<Vec<Piece>, AllocError>
-    requires len { length pieces.now < 2 ^ 62 }
-    ensures { IfOk result (λ v. v.items ≡ filter is_kept pieces.now) }
+    meanings: &[Meaning],
+) -> Result<Vec<u32>, AllocError>
+    requires len { length meanings.now ≤ 2 ^ 32 }
+    ensures { IfOk result (λ v. v.items ≡ places_where is_kept meanings.now) }
 {
-    let marks = marks(rt, alloc, plan, gate, pieces)?;
-    compact(rt, alloc, plan, gate, pieces, marks.as_slice())
+    positions(
+        rt,
+        alloc,
+        plan,
+        gate,
+        meanings,
+        &|meaning: Meaning| is_token(meaning),
+    )
 }
 
-// The terminals of pieces.
+// The terminals of the pieces with these numbers.
 fn kinds<G: Gate, R: Threads + Sync>(
     rt: &R,
     alloc: Global,
     plan: &Plan,
     gate: &G,
-    pieces: &[Piece],
+    pieces: &Pieces,
+    numbers: &[u32],
 ) -> Result<Vec<Terminal>, AllocError>
-    requires len { length pieces.now < 2 ^ 62 }
-    ensures { IfOk result (λ v. v.items ≡ map terminal_of_piece pieces.now) }
+    requires len { length numbers.now < 2 ^ 62 }
+    requires inside { All (λ k. k < length pieces.now) numbers.now }
+    ensures { IfOk result (λ v. v.items ≡ map (λ k. terminal_of_piece (row_at pieces.now k).meaning) numbers.now) }
 {
-    map(rt, alloc, plan, gate, pieces, &|piece: Piece| kind(piece))
+    let of_number = |k: u32| -> Terminal
+        requires { k < length pieces.now }
+        ensures { result ≡ terminal_of_piece (row_at pieces.entry.now k).meaning }
+    { kind(pieces.piece(k).meaning) };
+    map(rt, alloc, plan, gate, numbers, &of_number)
 }
 
-// The places of pieces.
+// The places of the pieces with these numbers.
 fn starts<G: Gate, R: Threads + Sync>(
     rt: &R,
     alloc: Global,
     plan: &Plan,
     gate: &G,
-    pieces: &[Piece],
+    pieces: &Pieces,
+    numbers: &[u32],
 ) -> Result<Vec<u32>, AllocError>
-    requires len { length pieces.now < 2 ^ 62 }
-    ensures { IfOk result (λ v. v.items ≡ map (λ p. p.start) pieces.now) }
+    requires len { length numbers.now < 2 ^ 62 }
+    requires inside { All (λ k. k < length pieces.now) numbers.now }
+    ensures { IfOk result (λ v. v.items ≡ map (λ k. (row_at pieces.now k).start) numbers.now) }
 {
-    map(rt, alloc, plan, gate, pieces, &|piece: Piece| piece.start)
+    let of_number = |k: u32| -> u32
+        requires { k < length pieces.now }
+        ensures { result ≡ (row_at pieces.entry.now k).start }
+    { pieces.piece(k).start };
+    map(rt, alloc, plan, gate, numbers, &of_number)
 }
 
-// The lengths of pieces.
+// The lengths of the pieces with these numbers.
 fn lengths<G: Gate, R: Threads + Sync>(
     rt: &R,
     alloc: Global,
     plan: &Plan,
     gate: &G,
-    pieces: &[Piece],
+    pieces: &Pieces,
+    numbers: &[u32],
 ) -> Result<Vec<u32>, AllocError>
-    requires len { length pieces.now < 2 ^ 62 }
-    ensures { IfOk result (λ v. v.items ≡ map (λ p. p.length) pieces.now) }
+    requires len { length numbers.now < 2 ^ 62 }
+    requires inside { All (λ k. k < length pieces.now) numbers.now }
+    ensures { IfOk result (λ v. v.items ≡ map (λ k. (row_at pieces.now k).length) numbers.now) }
 {
-    map(rt, alloc, plan, gate, pieces, &|piece: Piece| piece.length)
+    let of_number = |k: u32| -> u32
+        requires { k < length pieces.now }
+        ensures { result ≡ (row_at pieces.entry.now k).length }
+    { pieces.piece(k).length };
+    map(rt, alloc, plan, gate, numbers, &of_number)
 }
 
 // The tokens among pieces.
@@ -115,14 +119,14 @@ pub(crate) fn tokens<G: Gate, R: Threads + Sync>(
     alloc: Global,
     plan: &Plan,
     gate: &G,
-    pieces: &[Piece],
+    pieces: &Pieces,
 ) -> Result<Tokens, AllocError>
-    requires len { length pieces.now < 2 ^ 62 }
+    requires len { length pieces.now ≤ 2 ^ 32 }
     ensures { IfOk result (λ t. t ≡ columns pieces.now) }
 {
-    let tokens = kept(rt, alloc, plan, gate, pieces)?;
-    let kinds = kinds(rt, alloc, plan, gate, tokens.as_slice())?;
-    let starts = starts(rt, alloc, plan, gate, tokens.as_slice())?;
-    let lengths = lengths(rt, alloc, plan, gate, tokens.as_slice())?;
+    let numbers = kept(rt, alloc, plan, gate, pieces.meanings())?;
+    let kinds = kinds(rt, alloc, plan, gate, pieces, numbers.as_slice())?;
+    let starts = starts(rt, alloc, plan, gate, pieces, numbers.as_slice())?;
+    let lengths = lengths(rt, alloc, plan, gate, pieces, numbers.as_slice())?;
     Ok(Tokens::new(kinds, starts, lengths))
 }

@@ -27,9 +27,9 @@ pub fn lex<G: Gate, R: Threads + Sync>(
     ensures fault { (code at : ℕ) → result ≡ Err (Told code at) → lexical_fault text.now ≡ Some (code, at) }
 {
     let pieces = pieces(rt, alloc, plan, gate, text)?;
-    let key = least_key(rt, alloc, plan, gate, pieces.as_slice())?;
+    let key = least_key(rt, alloc, plan, gate, &pieces)?;
     match told_by(key) {
         Some(Diagnostic { code, at }) => Err(LexFault::Diagnostic { code, at }),
-        None => Ok(tokens(rt, alloc, plan, gate, pieces.as_slice())?),
+        None => Ok(tokens(rt, alloc, plan, gate, &pieces)?),
     }
 }

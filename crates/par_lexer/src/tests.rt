@@ -3,7 +3,7 @@ ghost use Rattle.std.specs.Prelude.{◌≤◌, ◌^◌, length};
 
 use super::*;
 use crate::automaton::automaton;
-use crate::begun::{begins, begins_in_turn};
+use crate::begun::{begins, begins_by_run};
 use chunk_seats::{Gate, OpenGate, Plan};
 use source_meaning::Terminal;
 use state_monoid::Compositions;
@@ -169,7 +169,8 @@ fn one_run_says_the_same(rt: HostRuntime) -> Result<(), Fail> {
     let dfa = automaton(alloc)?;
     let plan = Plan::new(4, 7).ok_or("in range")?;
     let by_functions = begins(&rt, alloc, &plan, &OpenGate, EVERY_CLASS)?;
-    assert!(rt; begins_in_turn(alloc, &dfa, EVERY_CLASS)? == by_functions);
+    let by_run = begins_by_run(&rt, alloc, &plan, &OpenGate, &dfa, EVERY_CLASS)?;
+    assert!(rt; by_run == by_functions);
     let Ok(compositions) = Compositions::build(alloc, &dfa) else {
         return Err("too many".into());
     };
