@@ -8,4 +8,5 @@ mod Faulting
 mod Keying
 mod Keeping
 mod Running
+mod Parting
 mod Fronts

@@ -6,10 +6,11 @@ ghost use Rattle.par_lexer.specs.Reading.{begins as begins_of};
 ghost use Rattle.par_lexer.specs.Table.{lexer, is_begun_by};
 
 use crate::automaton::{NOTHING, automaton, is_begun};
+use crate::vectors::begins_by_vectors;
 use chunk_seats::{Gate, Plan};
 use par_passes::map;
 use scan_lookback::{Lift, scan_lifted};
-use state_monoid::{BuildFault, Compositions, Dfa};
+use state_monoid::{BuildFault, Compositions};
 use std::alloc::{AllocError, Global};
 use std::thread::Threads;
 
@@ -96,21 +97,8 @@ fn begins_by_functions<G: Gate, R: Threads + Sync>(
     marks(rt, alloc, plan, gate, &functions.compositions, &codes[1..])
 }
 
-// The same by one run of the automaton.
-pub(crate) fn begins_in_turn(alloc: Global, dfa: &Dfa, text: &[u8]) -> Result<Vec<bool>, AllocError>
-    requires automaton { dfa.now ≡ lexer }
-    ensures { IfOk result (λ v. v.items ≡ begins_of text.now) }
-{
-    let mut begins = Vec::with_capacity(alloc, text.len())?;
-    let mut state = u32::from(NOTHING);
-    for byte in text {
-        state = dfa.next(state, *byte);
-        begins.push(is_begun(state as u8))?;
-    }
-    Ok(begins)
-}
-
-// At which bytes pieces begin. Where the automaton's functions are too many to be numbered, which they aren't, one run of it answers.
+// At which bytes pieces begin. Where the automaton's functions are too many to be numbered, which they aren't, vectors of
+// its states answer.
 pub(crate) fn begins<G: Gate, R: Threads + Sync>(
     rt: &R,
     alloc: Global,
@@ -127,7 +115,9 @@ pub(crate) fn begins<G: Gate, R: Threads + Sync>(
             let functions = ByFunctions { compositions };
             begins_by_functions(rt, alloc, plan, gate, &functions, text)
         }
-        Err(BuildFault::TooMany { reached: _ }) => begins_in_turn(alloc, &dfa, text),
+        Err(BuildFault::TooMany { reached: _ }) => {
+            begins_by_vectors(rt, alloc, plan, &dfa, text)
+        },
         Err(BuildFault::NoMemory) => Err(AllocError),
     }
 }
