@@ -1,4 +1,4 @@
-//! At which bytes of a text pieces begin: by the functions of its beginnings, or by one run of the automaton.
+//! At which bytes of a text pieces begin: by the functions of its beginnings, or by vectors of states.
 ghost use Rattle.std.specs.Prelude.{◌≡◌, ◌<◌, ◌≤◌, ◌^◌, ◌++◌, [], ◌∷◌, true, length, map, drop, IfOk, IfErr};
 ghost use Rattle.word_monoid.specs.Folds.{prefixes};
 ghost use Rattle.state_monoid.specs.Numbering.{byte_number, composition};
@@ -115,9 +115,7 @@ pub(crate) fn begins<G: Gate, R: Threads + Sync>(
             let functions = ByFunctions { compositions };
             begins_by_functions(rt, alloc, plan, gate, &functions, text)
         }
-        Err(BuildFault::TooMany { reached: _ }) => {
-            begins_by_vectors(rt, alloc, plan, &dfa, text)
-        },
+        Err(BuildFault::TooMany { reached: _ }) => begins_by_vectors(rt, alloc, plan, &dfa, text),
         Err(BuildFault::NoMemory) => Err(AllocError),
     }
 }

@@ -168,9 +168,10 @@ fn long_pieces(rt: HostRuntime) -> Result<(), Fail> {
 fn vectors_say_the_same(rt: HostRuntime) -> Result<(), Fail> {
     let alloc = rt.alloc();
     let dfa = automaton(alloc)?;
+    let plan = Plan::new(4, 7).ok_or("in range")?;
+    let by_functions = begins(&rt, alloc, &plan, &OpenGate, EVERY_CLASS)?;
     for (workers, chunk) in PLANS {
         let plan = Plan::new(workers, chunk).ok_or("in range")?;
-        let by_functions = begins(&rt, alloc, &plan, &OpenGate, EVERY_CLASS)?;
         let by_vectors = begins_by_vectors(&rt, alloc, &plan, &dfa, EVERY_CLASS)?;
         assert!(rt; by_vectors == by_functions);
     }
