@@ -10,4 +10,5 @@ mod Keying
 mod Rows
 mod Keeping
 mod Running
+mod Parting
 mod Fronts

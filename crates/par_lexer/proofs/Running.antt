@@ -165,16 +165,16 @@ pub all_but_first : (xs : List ℕ) → take (length xs - 1) (drop 1 xs) ≡ dro
 all_but_first [] = refl
 all_but_first (x ∷ xs) = let e : length (x ∷ xs) - 1 ≡ length xs = omega arith in ap (λ (n : ℕ). take n xs) e ∙ take_all xs
 
-pub begins_more : (d : Automaton) → d ≡ lexer → (text : List ℕ) (done more : List Bool) (i s n : ℕ) (b : Bool)
+pub begins_more : (d : Automaton) → d ≡ lexer → (text : List ℕ) (all done more : List Bool) (i s n : ℕ) (b : Bool)
     → i < length text → Bytes text → s < 16 → n ≡ step d s (get_or text i 0) → b ≡ is_begun n → more ≡ done ++ b ∷ []
-    → begins text ≡ done ++ begins_from s (drop i text) → (begins text ≡ more ++ begins_from n (drop (i + 1) text)) × (n < 16)
-begins_more d e text done more i s n b inside w h is begun pushed so_far =
+    → all ≡ done ++ begins_from s (drop i text) → (all ≡ more ++ begins_from n (drop (i + 1) text)) × (n < 16)
+begins_more d e text all done more i s n b inside w h is begun pushed so_far =
     let x : ℕ = get_or text i 0 in
     let state : n ≡ next_state s x = is ∙ (ap (λ (d : Automaton). step d s x) e ∙ step_is s x h (w i 0 inside)) in
     let rest : drop i text ≡ x ∷ drop (i + 1) text = next_byte text i inside in
-    let all : done ++ begins_from s (x ∷ drop (i + 1) text) ≡ (done ++ is_begun (next_state s x) ∷ []) ++ begins_from (next_state s x) (drop (i + 1) text) = sym (append_assoc done (is_begun (next_state s x) ∷ []) (begins_from (next_state s x) (drop (i + 1) text))) in
+    let moved : done ++ begins_from s (x ∷ drop (i + 1) text) ≡ (done ++ is_begun (next_state s x) ∷ []) ++ begins_from (next_state s x) (drop (i + 1) text) = sym (append_assoc done (is_begun (next_state s x) ∷ []) (begins_from (next_state s x) (drop (i + 1) text))) in
     let mark : b ≡ is_begun (next_state s x) = begun ∙ ap is_begun state in (
-      so_far ∙ (ap (λ (l : List ℕ). done ++ begins_from s l) rest ∙ (all ∙ sym (λ j. (pushed ∙ ap (λ b. done ++ b ∷ []) mark) j ++ begins_from (state j) (drop (i + 1) text)))),
+      so_far ∙ (ap (λ (l : List ℕ). done ++ begins_from s l) rest ∙ (moved ∙ sym (λ j. (pushed ∙ ap (λ b. done ++ b ∷ []) mark) j ++ begins_from (state j) (drop (i + 1) text)))),
       subst (λ (t : ℕ). t < 16) (sym state) (next_below s x),
     )
   where

@@ -1,4 +1,4 @@
-//! At which bytes of a text pieces begin, by the functions of its beginnings, or by one run of the automaton.
+//! The places of a text at which pieces begin, by the functions of its beginnings, or by vectors of states.
 ghost use Rattle.std.specs.Prelude.{◌≡◌, ◌<◌, ◌≤◌, ◌^◌, false, length, map, slice_index_or, IfOk};
 ghost use Rattle.std.specs.List.{range_with_len};
 ghost use Rattle.word_monoid.specs.Folds.{prefixes};
@@ -8,6 +8,7 @@ ghost use Rattle.par_lexer.specs.Table.{lexer, is_begun_by};
 ghost use Rattle.par_lexer.specs.Spans.{places_where};
 
 use crate::automaton::{NOTHING, automaton, is_begun};
+use crate::vectors::marks_by_vectors;
 use chunk_seats::{Gate, Plan};
 use par_passes::positions;
 use scan_lookback::{Lift, scan_lifted};
@@ -111,20 +112,6 @@ fn begins_by_functions<G: Gate, R: Threads + Sync>(
     places_of(rt, alloc, plan, gate, begun.as_slice(), &codes[1..])
 }
 
-// At which bytes pieces begin, by one run of the automaton.
-fn begins_in_turn(alloc: Global, dfa: &Dfa, text: &[u8]) -> Result<Vec<bool>, AllocError>
-    requires automaton { dfa.now ≡ lexer }
-    ensures { IfOk result (λ v. v.items ≡ begins_of text.now) }
-{
-    let mut begins = Vec::with_capacity(alloc, text.len())?;
-    let mut state = u32::from(NOTHING);
-    for byte in text {
-        state = dfa.next(state, *byte);
-        begins.push(is_begun(state as u8))?;
-    }
-    Ok(begins)
-}
-
 // The places of the true marks.
 fn places_of_marks<G: Gate, R: Threads + Sync>(
     rt: &R,
@@ -139,8 +126,8 @@ fn places_of_marks<G: Gate, R: Threads + Sync>(
     positions(rt, alloc, plan, gate, marks, &|mark: bool| mark)
 }
 
-// The places at which pieces begin, by one run of the automaton.
-pub(crate) fn begins_by_run<G: Gate, R: Threads + Sync>(
+// The places at which pieces begin, by vectors of states.
+pub(crate) fn begins_by_vectors<G: Gate, R: Threads + Sync>(
     rt: &R,
     alloc: Global,
     plan: &Plan,
@@ -152,11 +139,12 @@ pub(crate) fn begins_by_run<G: Gate, R: Threads + Sync>(
     requires automaton { dfa.now ≡ lexer }
     ensures { IfOk result (λ v. v.items ≡ places_where (λ b. b) (begins_of text.now)) }
 {
-    let marks = begins_in_turn(alloc, dfa, text)?;
+    let marks = marks_by_vectors(rt, alloc, plan, dfa, text)?;
     places_of_marks(rt, alloc, plan, gate, marks.as_slice())
 }
 
-// The places at which pieces begin. Where the automaton's functions are too many to be numbered, which they aren't, one run of it answers.
+// The places at which pieces begin. Where the automaton's functions are too many to be numbered, which they aren't, vectors of its
+// states answer.
 pub(crate) fn begins<G: Gate, R: Threads + Sync>(
     rt: &R,
     alloc: Global,
@@ -174,7 +162,7 @@ pub(crate) fn begins<G: Gate, R: Threads + Sync>(
             begins_by_functions(rt, alloc, plan, gate, &functions, text)
         }
         Err(BuildFault::TooMany { reached: _ }) => {
-            begins_by_run(rt, alloc, plan, gate, &dfa, text)
+            begins_by_vectors(rt, alloc, plan, gate, &dfa, text)
         }
         Err(BuildFault::NoMemory) => Err(AllocError),
     }

@@ -13,6 +13,7 @@ mod lexer;
 mod marks;
 mod meanings;
 mod pieces;
+mod vectors;
 
 pub use fault::LexFault;
 pub use laws::{first_piece_is_longest, fronts_are_lexemes};

@@ -3,7 +3,7 @@ ghost use Rattle.std.specs.Prelude.{◌≤◌, ◌^◌, length};
 
 use super::*;
 use crate::automaton::automaton;
-use crate::begun::{begins, begins_by_run};
+use crate::begun::{begins, begins_by_vectors};
 use chunk_seats::{Gate, OpenGate, Plan};
 use source_meaning::Terminal;
 use state_monoid::Compositions;
@@ -164,17 +164,22 @@ fn long_pieces(rt: HostRuntime) -> Result<(), Fail> {
 }
 
 #[test]
-fn one_run_says_the_same(rt: HostRuntime) -> Result<(), Fail> {
+fn vectors_say_the_same(rt: HostRuntime) -> Result<(), Fail> {
     let alloc = rt.alloc();
     let dfa = automaton(alloc)?;
     let plan = Plan::new(4, 7).ok_or("in range")?;
     let by_functions = begins(&rt, alloc, &plan, &OpenGate, EVERY_CLASS)?;
-    let by_run = begins_by_run(&rt, alloc, &plan, &OpenGate, &dfa, EVERY_CLASS)?;
-    assert!(rt; by_run == by_functions);
+    for (workers, chunk) in PLANS {
+        let plan = Plan::new(workers, chunk).ok_or("in range")?;
+        let by_vectors = begins_by_vectors(&rt, alloc, &plan, &OpenGate, &dfa, EVERY_CLASS)?;
+        assert!(rt; by_vectors == by_functions);
+    }
     let Ok(compositions) = Compositions::build(alloc, &dfa) else {
         return Err("too many".into());
     };
-    assert_eq!(rt; compositions.count(), 65);
+    let functions = compositions.count();
+    println!(rt; "functions: {functions}")?;
+    assert_eq!(rt; functions, 65);
     Ok(())
 }
 

@@ -1,6 +1,6 @@
 use Rattle.std.proofs.Common.{◌≡◌, length, ap, ◌∙◌, arith}
 use Rattle.par_lexer.proofs.Cutting.{marks_as_many}
-use Rattle.par_lexer.proofs.begun.begins_by_run.Goals as goal
+use Rattle.par_lexer.proofs.begun.begins_by_vectors.Goals as goal
 
 pub places_of_marks-requires-clause-len : goal.places_of_marks-requires-clause-len
 places_of_marks-requires-clause-len g c κs within =
