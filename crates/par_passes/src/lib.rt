@@ -8,12 +8,14 @@ mod each;
 mod fewest;
 mod fill;
 mod marked;
+mod numbered;
 mod order;
 mod places;
 
 pub use each::{map, map_lifted};
 pub use fewest::least;
 pub use marked::compact;
+pub use numbered::{positions, tabulate};
 pub use order::sorted;
 pub use places::gather;
 pub use scan_lookback::{Lift, scan, scan_lifted};
