@@ -1,7 +1,7 @@
 -- Marked items and numbers, item by item and chunk by chunk.
 use Rattle.std.proofs.Common.{◌≡◌, ℕ, zero, suc, ◌+◌, ◌-◌, ◌*◌, ◌<◌, ◌≤◌, min, Bool, true, false, cond, All, List, [], ◌∷◌, ◌++◌, length, get_or, take, drop, map, filter, refl, sym, ap, ◌∙◌, subst, arith, add-one, suc-mul, take-add, append_assoc}
 use Rattle.std.specs.List.{range_with_len, zip}
-use Rattle.std.proofs.lemmas.List.{append-nil, take_all, take_more, take-map, drop-map, map_more, length-take, length-drop, length-map}
+use Rattle.std.proofs.lemmas.List.{append-nil, take_more, take-map, drop-map, map_more, length-take, length-drop, length-map}
 use Rattle.std.proofs.lemmas.List.FromFn.{length-range_with_len, get_or-range_with_len, map-range_with_len_more}
 use Rattle.chunk_seats.specs.Chunks.{chunk_of, chunk_count}
 use Rattle.par_passes.specs.Passes.{marked}

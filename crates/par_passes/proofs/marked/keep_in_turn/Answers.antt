@@ -1,7 +1,5 @@
 use Rattle.std.proofs.Common.{◌≡◌, ◌∙◌, length, arith}
 use Rattle.chunk_seats.specs.Chunks.{chunk_count}
-use Rattle.par_passes.specs.Passes.{marked}
-use Rattle.par_passes.proofs.Together.{whole_list}
 use Rattle.par_passes.proofs.Marking.{marked_chunk_more, marked_all}
 use Rattle.par_passes.proofs.marked.keep_in_turn.Goals as goal
 

@@ -1,4 +1,4 @@
-use Rattle.std.proofs.Common.{◌≡◌, ◌∙◌, ap, sym, map, filter, length}
+use Rattle.std.proofs.Common.{◌∙◌, ap, sym, map, filter, length}
 use Rattle.std.specs.List.{range_with_len, zip}
 use Rattle.std.proofs.lemmas.List.FromFn.{length-range_with_len}
 use Rattle.chunk_seats.specs.Chunks.{chunk_of, chunk_count}
