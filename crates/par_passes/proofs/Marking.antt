@@ -1,7 +1,7 @@
 -- Marked items and numbers, item by item and chunk by chunk.
 use Rattle.std.proofs.Common.{◌≡◌, ℕ, zero, suc, ◌+◌, ◌-◌, ◌*◌, ◌<◌, ◌≤◌, min, Bool, true, false, cond, All, List, [], ◌∷◌, ◌++◌, length, get_or, take, drop, map, filter, refl, sym, ap, ◌∙◌, subst, arith, add-one, suc-mul, take-add, append_assoc}
 use Rattle.std.specs.List.{range_with_len, zip}
-use Rattle.std.proofs.lemmas.List.{append-nil, take_more, take-map, drop-map, map_more, length-take, length-drop, length-map}
+use Rattle.std.proofs.lemmas.List.{take_more, take-map, drop-map, map_more, length-take, length-drop, length-map}
 use Rattle.std.proofs.lemmas.List.FromFn.{length-range_with_len, get_or-range_with_len, map-range_with_len_more}
 use Rattle.chunk_seats.specs.Chunks.{chunk_of, chunk_count}
 use Rattle.par_passes.specs.Passes.{marked}
@@ -98,28 +98,24 @@ push_marked {X} old out more xs xs' ms ms' x b same items marks so_far added =
     ∙ ap (λ (l : List X). old ++ l) (sym (marked_next xs ms x b same) ∙ (λ i. marked (sym items i) (sym marks i)))))
 
 -- the same in the middle of two lists
-pub push_item : {X : Type 0} (xs : List X) (ms : List Bool) (k : ℕ) (x : X) (b d : Bool) (old out more : List X) → length ms ≡ length xs → k < length xs → x ≡ get_or xs k x → get_or ms k d ≡ b
-    → out ≡ old ++ marked (take k xs) (take k ms) → more ≡ out ++ cond b (x ∷ []) [] → more ≡ old ++ marked (take (k + 1) xs) (take (k + 1) ms)
-push_item {X} xs ms k x b d old out more same less here mark so_far added =
+pub push_item : {X : Type 0} (xs : List X) (ms : List Bool) (k : ℕ) (x : X) (d : Bool) (old out more : List X) → length ms ≡ length xs → k < length xs → x ≡ get_or xs k x
+    → out ≡ old ++ marked (take k xs) (take k ms) → more ≡ out ++ cond (get_or ms k d) (x ∷ []) [] → more ≡ old ++ marked (take (k + 1) xs) (take (k + 1) ms)
+push_item {X} xs ms k x d old out more same less here so_far added =
     let level : length (take k ms) ≡ length (take k xs) = length-take k ms ∙ (ap (min k) same ∙ sym (length-take k xs)) in
-    push_marked old out more (take k xs) (take (k + 1) xs) (take k ms) (take (k + 1) ms) x b level
+    push_marked old out more (take k xs) (take (k + 1) xs) (take k ms) (take (k + 1) ms) x (get_or ms k d) level
     (take_more xs k x less ∙ ap (λ (y : X). take k xs ++ y ∷ []) (sym here))
-    (take_more ms k d (omega arith) ∙ ap (λ (m : Bool). take k ms ++ m ∷ []) mark)
+    (take_more ms k d (omega arith))
     so_far added
 
--- nothing is pushed
-pub no_more : {X : Type 0} (out more : List X) → more ≡ out → more ≡ out ++ []
-no_more out more is = is ∙ sym (append-nil out)
-
 -- the same for places, where a function that calls compute says what is pushed
-pub push_place : {X : Type 0} (post : X → Bool → Type 0) (g : X → Bool) (part : List X) (from k : ℕ) (x : X) (r b : Bool) (old out more : List ℕ) → k < length part → x ≡ get_or part k x → post x r → r ≡ b
-    → All (λ x. (r : Bool) → post x r → r ≡ g x) part → out ≡ old ++ marked (range_with_len from k) (map g (take k part)) → more ≡ out ++ cond b ((from + k) ∷ []) []
+pub push_place : {X : Type 0} (post : X → Bool → Type 0) (g : X → Bool) (part : List X) (from k : ℕ) (x : X) (r : Bool) (old out more : List ℕ) → k < length part → x ≡ get_or part k x → post x r
+    → All (λ x. (r : Bool) → post x r → r ≡ g x) part → out ≡ old ++ marked (range_with_len from k) (map g (take k part)) → more ≡ out ++ cond r ((from + k) ∷ []) []
     → more ≡ old ++ marked (range_with_len from (k + 1)) (map g (take (k + 1) part))
-push_place {X} post g part from k x r b old out more less here gave is computes so_far added =
+push_place {X} post g part from k x r old out more less here gave computes so_far added =
     let there : r ≡ g (get_or part k x) = computes k x less r (subst (λ (y : X). post y r) here gave) in
     let level : length (map g (take k part)) ≡ length (range_with_len from k) = length-map (take k part) g ∙ (length-take k part ∙ ((omega arith) ∙ sym (length-range_with_len from k))) in
-    push_marked old out more (range_with_len from k) (range_with_len from (k + 1)) (map g (take k part)) (map g (take (k + 1) part)) (from + k) b level
-    (range_next from k) (map_more g part k x less ∙ ap (λ (m : Bool). map g (take k part) ++ m ∷ []) (sym there ∙ is)) so_far added
+    push_marked old out more (range_with_len from k) (range_with_len from (k + 1)) (map g (take k part)) (map g (take (k + 1) part)) (from + k) r level
+    (range_next from k) (map_more g part k x less ∙ ap (λ (m : Bool). map g (take k part) ++ m ∷ []) (sym there)) so_far added
 
 -- what holds of all numbers in a range
 pub of_number : (P : ℕ → Type 0) (from to k : ℕ) → from ≤ k → k < to → All P (range_with_len from (to - from)) → P k

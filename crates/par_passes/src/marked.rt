@@ -1,5 +1,5 @@
 //! Items that are marked.
-ghost use Rattle.std.specs.Prelude.{◌≡◌, ◌<◌, ◌^◌, ◌++◌, length, map, filter, IfOk};
+ghost use Rattle.std.specs.Prelude.{◌≡◌, ◌<◌, ◌^◌, [], ◌∷◌, ◌++◌, cond, length, map, filter, IfOk};
 ghost use Rattle.std.specs.List.{zip};
 ghost use Rattle.chunk_seats.specs.Chunks.{chunk_of};
 ghost use Rattle.par_passes.specs.Passes.{marked};
@@ -10,15 +10,23 @@ use chunk_seats::{Gate, Plan};
 use std::alloc::{AllocError, Global};
 use std::thread::Threads;
 
+// The value where it is to be kept, right behind what is in the list.
+pub(crate) fn push_if<T: Copy>(keep: bool, x: T, out: &mut Vec<T>) -> Result<(), AllocError>
+    ensures { IfOk result (λ _. out.new.items ≡ out.old.items ++ cond keep (x ∷ []) []) }
+{
+    if keep {
+        out.push(x)?;
+    }
+    Ok(())
+}
+
 // The marked items, right behind what is in the list.
 fn keep_onto<T: Copy>(items: &[T], marks: &[bool], out: &mut Vec<T>) -> Result<(), AllocError>
     requires marks { length marks.now ≡ length items.now }
     ensures { IfOk result (λ _. out.new.items ≡ out.old.items ++ marked items.now marks.now) }
 {
     for (k, x) in items.iter().enumerate() {
-        if marks[k] {
-            out.push(*x)?;
-        }
+        push_if(marks[k], *x, out)?;
     }
     Ok(())
 }

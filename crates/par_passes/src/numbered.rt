@@ -6,6 +6,7 @@ ghost use Rattle.par_passes.specs.Passes.{Maps, marked};
 
 use crate::chunk::{chunk_slice, chunk_start, count_chunks};
 use crate::crew::by_chunks;
+use crate::marked::push_if;
 use chunk_seats::{Gate, Plan};
 use std::alloc::{AllocError, Global};
 use std::thread::Threads;
@@ -22,9 +23,7 @@ fn find_onto<T: Copy, F: Fn(T) -> bool>(
     ensures { IfOk result (λ _. (g : T → Bool) → All (λ x. (r : Bool) → F.post f.now x r → r ≡ g x) part.now → out.new.items ≡ out.old.items ++ marked (range_with_len from (length part.now)) (map g part.now)) }
 {
     for (k, x) in part.iter().enumerate() {
-        if f(*x) {
-            out.push((from + k) as u32)?;
-        }
+        push_if(f(*x), (from + k) as u32, out)?;
     }
     Ok(())
 }
