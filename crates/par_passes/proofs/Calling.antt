@@ -1,6 +1,8 @@
 -- What callers of passes need beside the passes' clauses.
-use Rattle.std.proofs.Common.{◌≡◌, Bool, true, false, List, [], ◌∷◌, map, filter, cond, refl, ap}
-use Rattle.std.specs.List.{zip}
+use Rattle.std.proofs.Common.{◌≡◌, ℕ, Bool, true, false, List, [], ◌∷◌, length, slice_index_or, map, filter, cond, refl, ap, ◌∙◌}
+use Rattle.std.specs.List.{zip, range_with_len}
+use Rattle.std.proofs.lemmas.List.FromFn.{fill_by_all}
+use Rattle.std.proofs.lemmas.Simd.{map-map}
 use Rattle.par_passes.specs.Passes.{marked}
 pub use Rattle.par_passes.proofs.Together.{if_ok}
 
@@ -12,3 +14,11 @@ keeps x false v pairs rest is = is
 pub marked_by : {T : Type 0} (keep : T → Bool) (xs : List T) → marked xs (map keep xs) ≡ filter keep xs
 marked_by keep [] = refl
 marked_by keep (x ∷ xs) = keeps x (keep x) (keep x) (filter (λ p. p.1) (zip xs (map keep xs))) (filter keep xs) (marked_by keep xs)
+
+-- the places of the items that a function says true of
+pub places_by : {T : Type 0} (keep : T → Bool) (xs : List T) (d : T) → marked (range_with_len 0 (length xs)) (map keep xs) ≡ filter (λ k. keep (slice_index_or xs k d)) (range_with_len 0 (length xs))
+places_by {T} keep xs d =
+    let places : List ℕ = range_with_len 0 (length xs) in
+    let all : xs ≡ map (λ k. slice_index_or xs k d) places = fill_by_all (λ k. slice_index_or xs k d) xs (length xs) d refl (λ k h. refl) in
+    ap (λ (l : List T). marked places (map keep l)) all
+    ∙ (ap (marked places) (map-map keep (λ (k : ℕ). slice_index_or xs k d) places) ∙ marked_by (λ k. keep (slice_index_or xs k d)) places)

@@ -1,4 +1,5 @@
 pub mod Together
+pub mod Marking
 pub mod Working
 pub mod Lowest
 pub mod Calling

@@ -95,7 +95,7 @@ module _ {T : Type 0} where
   abbrev kept : List (T × Bool) → List T
   kept pairs = map (λ p. p.0) (filter (λ p. p.1) pairs)
 
-  kept_parts : (xs ys : List (T × Bool)) → kept (xs ++ ys) ≡ kept xs ++ kept ys
+  pub kept_parts : (xs ys : List (T × Bool)) → kept (xs ++ ys) ≡ kept xs ++ kept ys
   kept_parts xs ys = ap (map (λ p. p.0)) (filter-append (λ p. p.1) xs ys) ∙ map-append (λ p. p.0) (filter (λ p. p.1) xs) (filter (λ p. p.1) ys)
 
   -- a chunk of the pairs

@@ -1,5 +1,6 @@
 //! How each pass is called, and how little is then left to prove.
-ghost use Rattle.std.specs.Prelude.{◌≡◌, ◌+◌, ◌-◌, ◌%◌, ◌/◌, ◌<◌, ◌≤◌, ◌^◌, length, leb, map, filter, fold, min, slice_index_or, All, IfOk, IsPermutation, IsSorted};
+ghost use Rattle.std.specs.Prelude.{◌≡◌, ◌+◌, ◌-◌, ◌%◌, ◌/◌, ◌<◌, ◌≤◌, ◌^◌, length, leb, map, filter, fold, min, slice_index, slice_index_or, All, IfOk, IsPermutation, IsSorted};
+ghost use Rattle.std.specs.List.{range_with_len};
 ghost use Rattle.std.specs.Ordering.{nat_cmp};
 ghost use Rattle.word_monoid.specs.Folds.{prefixes};
 ghost use Rattle.word_monoid.specs.Instances.{count};
@@ -85,6 +86,38 @@ pub(crate) fn at_least<R: Threads + Sync>(
 {
     let marks = mark_from(rt, alloc, plan, xs, low)?;
     compact(rt, alloc, plan, &OpenGate, xs, marks.as_slice())
+}
+
+// The places of the items that a function says yes to.
+pub(crate) fn places_from<R: Threads + Sync>(
+    rt: &R,
+    alloc: Global,
+    plan: &Plan,
+    xs: &[u64],
+    low: u64,
+) -> Result<Vec<u32>, AllocError>
+    requires len { length xs.now ≤ 2 ^ 32 }
+    ensures { IfOk result (λ v. v.items ≡ filter (λ k. leb low (slice_index xs.now k)) (range_with_len 0 (length xs.now))) }
+{
+    positions(rt, alloc, plan, &OpenGate, xs, &|x: u64| low <= x)
+}
+
+// By how much each item but the first is greater than the one before it: a table by a closure over a list that it borrows.
+pub(crate) fn rises<R: Threads + Sync>(
+    rt: &R,
+    alloc: Global,
+    plan: &Plan,
+    xs: &[u64],
+) -> Result<Vec<u64>, AllocError>
+    requires len { length xs.now ≤ 2 ^ 32 }
+    ensures { IfOk result (λ v. v.items ≡ map (λ k. slice_index xs.now (k + 1) - slice_index xs.now k) (range_with_len 0 (length xs.now - 1))) }
+{
+    let rise = |k: u32| -> u64
+        requires { k + 1 < length xs.now }
+        ensures { result ≡ slice_index xs.entry.now (k + 1) - slice_index xs.entry.now k }
+    { xs[k as usize + 1].saturating_sub(xs[k as usize]) };
+    let count = xs.len().saturating_sub(1) as u32;
+    tabulate(rt, alloc, plan, &OpenGate, count, &rise)
 }
 
 // The least of what a function gives.
@@ -180,6 +213,10 @@ fn calls<R: Threads + Abort + Sync>(
     assert_eq!(rt; lowest(rt, alloc, &plan, &[1026, 5, 2047])?, 2);
     let begins = starts(rt, alloc, &plan, &[])?;
     assert!(rt; begins.as_slice() == [0].as_slice());
+    let places = places_from(rt, alloc, &plan, &[5, 1, 7, 3], 4)?;
+    assert!(rt; places.as_slice() == [0, 2].as_slice());
+    let up = rises(rt, alloc, &plan, &[5, 1, 7, 9])?;
+    assert!(rt; up.as_slice() == [0, 6, 2].as_slice());
     let table = vec![in alloc; 3u32; 1024]?;
     let class = classes(rt, alloc, &plan, table.as_slice(), &[9, 1025])?;
     assert!(rt; class.as_slice() == [3, 3].as_slice());
@@ -191,6 +228,10 @@ fn calls<R: Threads + Abort + Sync>(
     assert!(rt; up.is_empty());
     let kept = at_least(rt, alloc, &plan, &[], 4)?;
     assert!(rt; kept.is_empty());
+    let places = places_from(rt, alloc, &plan, &[], 4)?;
+    assert!(rt; places.is_empty());
+    let rise = rises(rt, alloc, &plan, &[])?;
+    assert!(rt; rise.is_empty());
     Ok(())
 }
 
@@ -200,6 +241,33 @@ fn callers_of_every_plan(rt: HostRuntime) -> Result<(), Fail> {
         for chunk in [1, 7, 65536] {
             calls(&rt, rt.alloc(), workers, chunk)?;
         }
+    }
+    Ok(())
+}
+
+// The passes over numbers, where all items are found.
+fn numbers<R: Threads + Abort + Sync>(
+    rt: &R,
+    alloc: Global,
+    plan: &Plan,
+    n: usize,
+) -> Result<(), Fail>
+    requires { n ≤ 8 }
+{
+    let places = places_from(rt, alloc, plan, &[7; 8][..n], 7)?;
+    assert!(rt; places.as_slice() == &[0, 1, 2, 3, 4, 5, 6, 7][..n]);
+    let rise = rises(rt, alloc, plan, &[1, 2, 4, 7, 11, 16, 22, 29][..n])?;
+    assert!(rt; rise.as_slice() == &[1, 2, 3, 4, 5, 6, 7][..n.saturating_sub(1)]);
+    Ok(())
+}
+
+#[test]
+fn numbers_of_one_chunk_and_one_more(rt: HostRuntime) -> Result<(), Fail> {
+    for workers in [1, 4] {
+        let plan = Plan::new(workers, 7).ok_or("in range")?;
+        numbers(&rt, rt.alloc(), &plan, 1)?;
+        numbers(&rt, rt.alloc(), &plan, 7)?;
+        numbers(&rt, rt.alloc(), &plan, 8)?;
     }
     Ok(())
 }

@@ -126,27 +126,6 @@ fn run<
     merge(claims, make, rest, half, one?, two?)
 }
 
-// What one worker makes of the chunks in turn, right behind one another.
-fn in_turn<U: Copy, F: Fn(u64) -> Result<Vec<U>, AllocError>, G: Gate>(
-    alloc: Global,
-    gate: &G,
-    count: usize,
-    capacity: usize,
-    make: &F,
-) -> Result<Vec<U>, AllocError>
-    requires callable { F.IsAlwaysCallable make.now }
-    ensures { IfOk result (λ v. (part : ℕ → List U) → ((c : ℕ) (x : Vec U) → c < count → F.post make.now c (Ok x) → x.items ≡ part c) → v.items ≡ flat_map part (range_with_len 0 count)) }
-{
-    let mut out = Vec::with_capacity(alloc, capacity)?;
-    for c in 0..count as u64 {
-        gate.after_claim(0, Some(c));
-        let list = make(c)?;
-        out.extend_from_slice(list.as_slice())?;
-    }
-    gate.after_claim(0, None);
-    Ok(out)
-}
-
 /// What is made of each chunk, one behind the other by number, for every plan and gate. `capacity` says how many values there will be.
 pub(crate) fn by_chunks<
     U: Copy + Send + Sync,
@@ -167,9 +146,6 @@ pub(crate) fn by_chunks<
     ensures { IfOk result (λ v. (part : ℕ → List U) → ((c : ℕ) (x : Vec U) → c < count → F.post make.now c (Ok x) → x.items ≡ part c) → v.items ≡ flat_map part (range_with_len 0 count)) }
 {
     let workers = (plan.workers as usize).min(count.max(1)) as u32;
-    if workers == 1 {
-        return in_turn(alloc, gate, count, capacity, make);
-    }
     let (claims, mine) = ClaimBoard::new(alloc, count as u64, workers)?;
     let Made { mine, all } = run(rt, alloc, &claims, mine, gate, 0, workers, make)?;
     claims.close(mine);

@@ -1,5 +1,5 @@
 //! Items that are marked.
-ghost use Rattle.std.specs.Prelude.{◌≡◌, ◌<◌, ◌^◌, length, map, filter, IfOk};
+ghost use Rattle.std.specs.Prelude.{◌≡◌, ◌<◌, ◌^◌, [], ◌∷◌, ◌++◌, cond, length, map, filter, IfOk};
 ghost use Rattle.std.specs.List.{zip};
 ghost use Rattle.chunk_seats.specs.Chunks.{chunk_of};
 ghost use Rattle.par_passes.specs.Passes.{marked};
@@ -10,16 +10,80 @@ use chunk_seats::{Gate, Plan};
 use std::alloc::{AllocError, Global};
 use std::thread::Threads;
 
+// The value where it is to be kept, right behind what is in the list.
+pub(crate) fn push_if<T: Copy>(keep: bool, x: T, out: &mut Vec<T>) -> Result<(), AllocError>
+    ensures { IfOk result (λ _. out.new.items ≡ out.old.items ++ cond keep (x ∷ []) []) }
+{
+    if keep {
+        out.push(x)?;
+    }
+    Ok(())
+}
+
+// The marked items, right behind what is in the list.
+fn keep_onto<T: Copy>(items: &[T], marks: &[bool], out: &mut Vec<T>) -> Result<(), AllocError>
+    requires marks { length marks.now ≡ length items.now }
+    ensures { IfOk result (λ _. out.new.items ≡ out.old.items ++ marked items.now marks.now) }
+{
+    for (k, x) in items.iter().enumerate() {
+        push_if(marks[k], *x, out)?;
+    }
+    Ok(())
+}
+
+// The same for a chunk of the items.
+fn keep_chunk_onto<T: Copy>(
+    items: &[T],
+    marks: &[bool],
+    size: u32,
+    c: u64,
+    out: &mut Vec<T>,
+) -> Result<(), AllocError>
+    requires marks { length marks.now ≡ length items.now }
+    ensures { IfOk result (λ _. out.new.items ≡ out.old.items ++ marked (chunk_of size items.now c) (chunk_of size marks.now c)) }
+{
+    keep_onto(
+        chunk_slice(items, size, c),
+        chunk_slice(marks, size, c),
+        out,
+    )
+}
+
 // The marked items of one chunk.
-fn keep_marked<T: Copy>(alloc: Global, items: &[T], marks: &[bool]) -> Result<Vec<T>, AllocError>
+fn keep_chunk<T: Copy>(
+    alloc: Global,
+    items: &[T],
+    marks: &[bool],
+    size: u32,
+    c: u64,
+) -> Result<Vec<T>, AllocError>
+    requires marks { length marks.now ≡ length items.now }
+    ensures { IfOk result (λ v. v.items ≡ marked (chunk_of size items.now c) (chunk_of size marks.now c)) }
+{
+    let mut out = Vec::with_capacity(alloc, size as usize)?;
+    keep_chunk_onto(items, marks, size, c, &mut out)?;
+    Ok(out)
+}
+
+// All that one worker does alone: the chunks in turn, each right behind the one before it.
+fn keep_in_turn<T: Copy, G: Gate>(
+    alloc: Global,
+    plan: &Plan,
+    gate: &G,
+    items: &[T],
+    marks: &[bool],
+) -> Result<Vec<T>, AllocError>
+    requires len { length items.now < 2 ^ 62 }
+    requires marks { length marks.now ≡ length items.now }
     ensures { IfOk result (λ v. v.items ≡ marked items.now marks.now) }
 {
-    items
-        .iter()
-        .zip(marks.iter())
-        .filter(|p| *p.1)
-        .map(|p| *p.0)
-        .collect(alloc)
+    let mut out = Vec::with_capacity(alloc, items.len())?;
+    for c in 0..count_chunks(items.len(), plan.chunk) as u64 {
+        gate.after_claim(0, Some(c));
+        keep_chunk_onto(items, marks, plan.chunk, c, &mut out)?;
+    }
+    gate.after_claim(0, None);
+    Ok(out)
 }
 
 /// The items that are marked, in the items' order. It is the same for every plan and gate. The only refusal is that memory is out.
@@ -36,12 +100,13 @@ pub fn compact<T: Copy + Send + Sync, G: Gate, R: Threads + Sync>(
     ensures { IfOk result (λ v. v.items ≡ map (λ p. p.0) (filter (λ p. p.1) (zip items.now marks.now))) }
 {
     let size = plan.chunk;
+    if plan.workers == 1 || items.len() <= size as usize {
+        return keep_in_turn(alloc, plan, gate, items, marks);
+    }
     let make = |c: u64| -> Result<Vec<T>, AllocError>
+        requires { length marks.now ≡ length items.now }
         ensures { IfOk result (λ v. v.items ≡ marked (chunk_of size items.entry.now c) (chunk_of size marks.entry.now c)) }
-    {
-        let part = chunk_slice(items, size, c);
-        keep_marked(alloc, part, chunk_slice(marks, size, c))
-    };
+    { keep_chunk(alloc, items, marks, size, c) };
     let count = count_chunks(items.len(), size);
     by_chunks(rt, alloc, plan, gate, count, items.len(), &make)
 }

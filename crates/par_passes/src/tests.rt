@@ -44,6 +44,12 @@ fn rows<R: Threads + Abort + Sync>(
         &[true, false, true],
     )?;
     assert!(rt; kept.as_slice() == [5, 7].as_slice());
+    let places = positions(rt, alloc, &plan, &OpenGate, &[5, 6, 7], &|x: u32| x != 6)?;
+    assert!(rt; places.as_slice() == [0, 2].as_slice());
+    let table = tabulate(rt, alloc, &plan, &OpenGate, 3, &|k: u32| k / 2)?;
+    assert!(rt; table.as_slice() == [0, 0, 1].as_slice());
+    let none = tabulate(rt, alloc, &plan, &OpenGate, 0, &|k: u32| k / 2)?;
+    assert!(rt; none.is_empty());
     assert_eq!(rt; least(rt, alloc, &plan, &OpenGate, &[4, 2, 9])?, 2);
     assert_eq!(rt; least(rt, alloc, &plan, &OpenGate, &[])?, u64::MAX);
     let up = sorted(rt, alloc, &plan, &[3, 1, 2])?;
@@ -86,21 +92,29 @@ impl Gate for Roll {
     }
 }
 
+fn nobody_told() -> Roll {
+    Roll {
+        ended: AtomicU64::new(0),
+        drawn: AtomicU64::new(0),
+    }
+}
+
+fn told(roll: &Roll) -> (u64, u64) {
+    (
+        roll.ended.load(Ordering::SeqCst),
+        roll.drawn.load(Ordering::SeqCst),
+    )
+}
+
 fn rolls<R: Threads + Abort + Sync>(
     rt: &R,
     alloc: Global,
     plan: &Plan,
     items: &[u32],
 ) -> Result<(u64, u64), Fail> {
-    let roll = Roll {
-        ended: AtomicU64::new(0),
-        drawn: AtomicU64::new(0),
-    };
+    let roll = nobody_told();
     let _all = map_lifted(rt, alloc, plan, &roll, items, &More)?;
-    Ok((
-        roll.ended.load(Ordering::SeqCst),
-        roll.drawn.load(Ordering::SeqCst),
-    ))
+    Ok(told(&roll))
 }
 
 #[test]
@@ -117,6 +131,42 @@ fn each_worker_tells_its_number(rt: HostRuntime) -> Result<(), Fail> {
     // one worker tells of its chunks too
     let one = Plan::new(1, 2).ok_or("in range")?;
     assert_eq!(rt; rolls(&rt, rt.alloc(), &one, &[3, 1, 4])?, (1, 0b11));
+    Ok(())
+}
+
+// How a gate was told of the passes that push, all behind one another.
+fn rolls_of_pushes<R: Threads + Abort + Sync>(
+    rt: &R,
+    alloc: Global,
+    plan: &Plan,
+    marks: &[bool],
+) -> Result<[(u64, u64); 3], Fail>
+    requires len { length marks.now < 2 ^ 32 }
+{
+    let (kept, found, made) = (nobody_told(), nobody_told(), nobody_told());
+    let _kept = compact(rt, alloc, plan, &kept, marks, marks)?;
+    let _found = positions(rt, alloc, plan, &found, marks, &|x: bool| x)?;
+    let _made = tabulate(rt, alloc, plan, &made, marks.len() as u32, &|k: u32| k / 2)?;
+    Ok([told(&kept), told(&found), told(&made)])
+}
+
+#[test]
+fn passes_that_push_tell_of_each_chunk(rt: HostRuntime) -> Result<(), Fail> {
+    let three = [true, false, true];
+    for workers in [1, 64] {
+        let plan = Plan::new(workers, 2).ok_or("in range")?;
+        let ended = if workers == 1 { 1 } else { 0x0101 };
+        for roll in rolls_of_pushes(&rt, rt.alloc(), &plan, &three)? {
+            assert_eq!(rt; roll, (ended, 0b11));
+        }
+        // one chunk, and none
+        for roll in rolls_of_pushes(&rt, rt.alloc(), &plan, &three[..2])? {
+            assert_eq!(rt; roll, (1, 0b1));
+        }
+        for roll in rolls_of_pushes(&rt, rt.alloc(), &plan, &[])? {
+            assert_eq!(rt; roll, (1, 0));
+        }
+    }
     Ok(())
 }
 
@@ -181,6 +231,14 @@ fn two_workers_meet(rt: HostRuntime) -> Result<(), Fail> {
         &[true, false, true],
     )?;
     assert!(rt; kept.as_slice() == [5, 7].as_slice());
+    assert!(rt; have_met(&gate));
+    let gate = nobody_yet();
+    let places = positions(&rt, rt.alloc(), &plan, &gate, &[5, 6, 7], &|x: u32| x != 6)?;
+    assert!(rt; places.as_slice() == [0, 2].as_slice());
+    assert!(rt; have_met(&gate));
+    let gate = nobody_yet();
+    let table = tabulate(&rt, rt.alloc(), &plan, &gate, 3, &|k: u32| k / 2)?;
+    assert!(rt; table.as_slice() == [0, 0, 1].as_slice());
     assert!(rt; have_met(&gate));
     let gate = nobody_yet();
     assert_eq!(rt; least(&rt, rt.alloc(), &plan, &gate, &[4, 2, 9])?, 2);

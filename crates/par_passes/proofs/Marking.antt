@@ -1,0 +1,142 @@
+-- Marked items and numbers, item by item and chunk by chunk.
+use Rattle.std.proofs.Common.{◌≡◌, ℕ, zero, suc, ◌+◌, ◌-◌, ◌*◌, ◌<◌, ◌≤◌, min, Bool, true, false, cond, All, List, [], ◌∷◌, ◌++◌, length, get_or, take, drop, map, filter, refl, sym, ap, ◌∙◌, subst, arith, add-one, suc-mul, take-add, append_assoc}
+use Rattle.std.specs.List.{range_with_len, zip}
+use Rattle.std.proofs.lemmas.List.{take_more, take-map, drop-map, map_more, length-take, length-drop, length-map}
+use Rattle.std.proofs.lemmas.List.FromFn.{length-range_with_len, get_or-range_with_len, map-range_with_len_more}
+use Rattle.chunk_seats.specs.Chunks.{chunk_of, chunk_count}
+use Rattle.par_passes.specs.Passes.{marked}
+use Rattle.par_passes.proofs.Together.{kept_parts, whole_list}
+
+module _ {X : Type 0} where
+  zip_append : (xs ys : List X) (ms ns : List Bool) → length ms ≡ length xs → zip (xs ++ ys) (ms ++ ns) ≡ zip xs ms ++ zip ys ns
+  zip_append [] ys [] ns same = refl
+  zip_append [] ys (m ∷ ms) ns same = absurd (omega arith)
+  zip_append (x ∷ xs) ys [] ns same = absurd (omega arith)
+  zip_append (x ∷ xs) ys (m ∷ ms) ns same = ap (λ (l : List (X × Bool)). (x, m) ∷ l) (zip_append xs ys ms ns (omega arith))
+
+  -- marked items behind one another
+  marked_append : (xs ys : List X) (ms ns : List Bool) → length ms ≡ length xs → marked (xs ++ ys) (ms ++ ns) ≡ marked xs ms ++ marked ys ns
+  marked_append xs ys ms ns same = ap (λ (l : List (X × Bool)). map (λ p. p.0) (filter (λ p. p.1) l)) (zip_append xs ys ms ns same) ∙ kept_parts (zip xs ms) (zip ys ns)
+
+  marked_one : (x : X) (m : Bool) → marked (x ∷ []) (m ∷ []) ≡ cond m (x ∷ []) []
+  marked_one x true = refl
+  marked_one x false = refl
+
+  -- one item more
+  pub marked_next : (xs : List X) (ms : List Bool) (x : X) (m : Bool) → length ms ≡ length xs → marked (xs ++ x ∷ []) (ms ++ m ∷ []) ≡ marked xs ms ++ cond m (x ∷ []) []
+  marked_next xs ms x m same = marked_append xs (x ∷ []) ms (m ∷ []) same ∙ ap (λ (l : List X). marked xs ms ++ l) (marked_one x m)
+
+  -- one chunk more
+  pub marked_chunk_more : (xs : List X) (ms : List Bool) (size c : ℕ) (out more : List X) → length ms ≡ length xs → out ≡ marked (take (c * size) xs) (take (c * size) ms)
+      → more ≡ out ++ marked (chunk_of size xs c) (chunk_of size ms c) → more ≡ marked (take ((c + 1) * size) xs) (take ((c + 1) * size) ms)
+  marked_chunk_more xs ms size c out more same so_far added =
+      let step : c * size + size ≡ (c + 1) * size = sym (suc-mul c size) ∙ ap (λ (k : ℕ). k * size) (sym (add-one c)) in
+      let level : length (take (c * size) ms) ≡ length (take (c * size) xs) = length-take (c * size) ms ∙ (ap (min (c * size)) same ∙ sym (length-take (c * size) xs)) in
+      added
+      ∙ (ap (λ (l : List X). l ++ marked (chunk_of size xs c) (chunk_of size ms c)) so_far
+      ∙ (sym (marked_append (take (c * size) xs) (chunk_of size xs c) (take (c * size) ms) (chunk_of size ms c) level)
+      ∙ ((λ i. marked (sym (take-add (c * size) size xs) i) (sym (take-add (c * size) size ms) i)) ∙ ap (λ (k : ℕ). marked (take k xs) (take k ms)) step)))
+
+  pub length_chunk : (size : ℕ) (xs : List X) (c : ℕ) → length (chunk_of size xs c) ≡ min size (length xs - c * size)
+  length_chunk size xs c = length-take size (drop (c * size) xs) ∙ ap (min size) (length-drop (c * size) xs)
+
+pub map_chunk : {X Y : Type 0} (g : X → Y) (size : ℕ) (xs : List X) (c : ℕ) → chunk_of size (map g xs) c ≡ map g (chunk_of size xs c)
+map_chunk g size xs c = ap (take size) (drop-map g (c * size) xs) ∙ take-map g size (drop (c * size) xs)
+
+pub range_next : (a n : ℕ) → range_with_len a (n + 1) ≡ range_with_len a n ++ (a + n) ∷ []
+range_next a zero = let z : a ≡ a + 0 = omega arith in ap (λ (k : ℕ). k ∷ []) z
+range_next a (suc n) =
+    let z : a + 1 + n ≡ a + suc n = omega arith in
+    let e : suc n + 1 ≡ suc (n + 1) = omega arith in
+    ap (range_with_len a) e ∙ ap (λ (l : List ℕ). a ∷ l) (range_next (a + 1) n ∙ ap (λ (k : ℕ). range_with_len (a + 1) n ++ k ∷ []) z)
+
+take_range : (k a n : ℕ) → take k (range_with_len a n) ≡ range_with_len a (min k n)
+take_range zero a n = let z : 0 ≡ min 0 n = omega arith in ap (range_with_len a) z
+take_range (suc k) a zero = let z : 0 ≡ min (suc k) 0 = omega arith in ap (range_with_len a) z
+take_range (suc k) a (suc n) =
+    let z : suc (min k n) ≡ min (suc k) (suc n) = omega arith in
+    ap (λ (l : List ℕ). a ∷ l) (take_range k (a + 1) n) ∙ ap (range_with_len a) z
+
+drop_range : (k a n : ℕ) → drop k (range_with_len a n) ≡ range_with_len (a + min k n) (n - k)
+drop_range zero a n = let z : a ≡ a + min 0 n = omega arith in let y : n ≡ n - 0 = omega arith in λ i. range_with_len (z i) (y i)
+drop_range (suc k) a zero = let y : 0 ≡ 0 - suc k = omega arith in ap (range_with_len (a + min (suc k) 0)) y
+drop_range (suc k) a (suc n) =
+    let z : a + 1 + min k n ≡ a + min (suc k) (suc n) = omega arith in
+    let y : n - k ≡ suc n - suc k = omega arith in
+    drop_range k (a + 1) n ∙ (λ i. range_with_len (z i) (y i))
+
+-- a chunk of the numbers below n
+pub range_chunk : (size n c from : ℕ) → from ≡ min (c * size) n → chunk_of size (range_with_len 0 n) c ≡ range_with_len from (min size (n - c * size))
+range_chunk size n c from is =
+    let z : 0 + min (c * size) n ≡ from = omega arith in
+    ap (take size) (drop_range (c * size) 0 n ∙ ap (λ (k : ℕ). range_with_len k (n - c * size)) z) ∙ take_range size from (n - c * size)
+
+-- the chunks are all of them
+pub marked_all : {X : Type 0} (xs : List X) (ms : List Bool) (size c : ℕ) → 0 < size → length ms ≡ length xs → c ≡ chunk_count size (length xs) → marked (take (c * size) xs) (take (c * size) ms) ≡ marked xs ms
+marked_all xs ms size c pos same is =
+    λ i. marked (whole_list size c xs pos is i) (whole_list size c ms pos (is ∙ ap (chunk_count size) (sym same)) i)
+
+-- a mark for each place
+pub as_many : {X Y : Type 0} (g : X → Y) (xs : List X) → length (map g xs) ≡ length (range_with_len 0 (length xs))
+as_many g xs = length-map xs g ∙ sym (length-range_with_len 0 (length xs))
+
+-- the places of a chunk's items are a chunk of the places
+pub places_in_chunk : {X : Type 0} (g : X → Bool) (size c from : ℕ) (items part : List X) → from ≡ min (c * size) (length items) → part ≡ chunk_of size items c
+    → marked (range_with_len from (length part)) (map g part) ≡ marked (chunk_of size (range_with_len 0 (length items)) c) (chunk_of size (map g items) c)
+places_in_chunk g size c from items part begins is =
+    (λ i. marked (range_with_len from (length (is i))) (map g (is i)))
+    ∙ ((λ i. marked (range_with_len from (length_chunk size items c i)) (map g (chunk_of size items c)))
+    ∙ (λ i. marked (sym (range_chunk size (length items) c from begins) i) (sym (map_chunk g size items c) i)))
+
+-- what is pushed of one item more
+pub push_marked : {X : Type 0} (old out more xs xs' : List X) (ms ms' : List Bool) (x : X) (b : Bool) → length ms ≡ length xs → xs' ≡ xs ++ x ∷ [] → ms' ≡ ms ++ b ∷ [] → out ≡ old ++ marked xs ms
+    → more ≡ out ++ cond b (x ∷ []) [] → more ≡ old ++ marked xs' ms'
+push_marked {X} old out more xs xs' ms ms' x b same items marks so_far added =
+    added
+    ∙ (ap (λ (l : List X). l ++ cond b (x ∷ []) []) so_far
+    ∙ (append_assoc old (marked xs ms) (cond b (x ∷ []) [])
+    ∙ ap (λ (l : List X). old ++ l) (sym (marked_next xs ms x b same) ∙ (λ i. marked (sym items i) (sym marks i)))))
+
+-- the same in the middle of two lists
+pub push_item : {X : Type 0} (xs : List X) (ms : List Bool) (k : ℕ) (x : X) (d : Bool) (old out more : List X) → length ms ≡ length xs → k < length xs → x ≡ get_or xs k x
+    → out ≡ old ++ marked (take k xs) (take k ms) → more ≡ out ++ cond (get_or ms k d) (x ∷ []) [] → more ≡ old ++ marked (take (k + 1) xs) (take (k + 1) ms)
+push_item {X} xs ms k x d old out more same less here so_far added =
+    let level : length (take k ms) ≡ length (take k xs) = length-take k ms ∙ (ap (min k) same ∙ sym (length-take k xs)) in
+    push_marked old out more (take k xs) (take (k + 1) xs) (take k ms) (take (k + 1) ms) x (get_or ms k d) level
+    (take_more xs k x less ∙ ap (λ (y : X). take k xs ++ y ∷ []) (sym here))
+    (take_more ms k d (omega arith))
+    so_far added
+
+-- the same for places, where a function that calls compute says what is pushed
+pub push_place : {X : Type 0} (post : X → Bool → Type 0) (g : X → Bool) (part : List X) (from k : ℕ) (x : X) (r : Bool) (old out more : List ℕ) → k < length part → x ≡ get_or part k x → post x r
+    → All (λ x. (r : Bool) → post x r → r ≡ g x) part → out ≡ old ++ marked (range_with_len from k) (map g (take k part)) → more ≡ out ++ cond r ((from + k) ∷ []) []
+    → more ≡ old ++ marked (range_with_len from (k + 1)) (map g (take (k + 1) part))
+push_place {X} post g part from k x r old out more less here gave computes so_far added =
+    let there : r ≡ g (get_or part k x) = computes k x less r (subst (λ (y : X). post y r) here gave) in
+    let level : length (map g (take k part)) ≡ length (range_with_len from k) = length-map (take k part) g ∙ (length-take k part ∙ ((omega arith) ∙ sym (length-range_with_len from k))) in
+    push_marked old out more (range_with_len from k) (range_with_len from (k + 1)) (map g (take k part)) (map g (take (k + 1) part)) (from + k) r level
+    (range_next from k) (map_more g part k x less ∙ ap (λ (m : Bool). map g (take k part) ++ m ∷ []) (sym there)) so_far added
+
+-- what holds of all numbers in a range
+pub of_number : (P : ℕ → Type 0) (from to k : ℕ) → from ≤ k → k < to → All P (range_with_len from (to - from)) → P k
+of_number P from to k least less all =
+    let less' : k - from < to - from = omega arith in
+    let n : length (range_with_len from (to - from)) ≡ to - from = length-range_with_len from (to - from) in
+    let back : from + (k - from) ≡ k = omega arith in
+    subst P (get_or-range_with_len from (to - from) (k - from) 0 less' ∙ back) (all (k - from) 0 (omega arith))
+
+-- one number more
+pub number_more : {X : Type 0} (g : ℕ → X) (from k : ℕ) (r : X) (old out more : List X) → from ≤ k → r ≡ g k → out ≡ old ++ map g (range_with_len from (k - from)) → more ≡ out ++ r ∷ [] → more ≡ old ++ map g (range_with_len from (k + 1 - from))
+number_more {X} g from k r old out more least is so_far added =
+    let next : k - from + 1 ≡ k + 1 - from = omega arith in
+    added
+    ∙ (ap (λ (l : List X). l ++ r ∷ []) so_far
+    ∙ (append_assoc old (map g (range_with_len from (k - from))) (r ∷ [])
+    ∙ (ap (λ (y : X). old ++ (map g (range_with_len from (k - from)) ++ y ∷ [])) is
+    ∙ ap (λ (l : List X). old ++ l) (sym (map-range_with_len_more g from (k - from) k (omega arith)) ∙ ap (λ (m : ℕ). map g (range_with_len from m)) next))))
+
+-- a chunk of the numbers below n, by its ends
+pub numbers_chunk : (size n c from to : ℕ) → from ≡ min (c * size) n → to ≡ from + min (n - from) size → chunk_of size (range_with_len 0 n) c ≡ range_with_len from (to - from)
+numbers_chunk size n c from to begins ends =
+    let all : min size (n - c * size) ≡ to - from = omega arith in
+    range_chunk size n c from begins ∙ ap (range_with_len from) all
