@@ -1,0 +1,9 @@
+//! Parts of a list that workers own while they fill them: a part is cut in two, goes to a thread or into a slot of a board, and is
+//! glued to its neighbour again.
+#![tactic(auto)]
+
+mod cuts;
+mod part;
+mod rows;
+
+pub use part::Part;
