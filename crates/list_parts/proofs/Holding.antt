@@ -12,7 +12,7 @@ use base.Fml.{Fml, fsep, flt}
 use types.Logic.{Logic}
 use types.Kit.{Goal, Step, step, Seq, Item, ‵, ◌$◌, drop, rewrite, fsplit, fjoin, fpick, fpack, feq_l, feq_i, flt_l, flt_i}
 use denote.RattleType.{RattleType, Valss}
-use denote.RawPtr.{Ptr, block_ptr, ptr_val, in_block, in_a_block}
+use denote.RawPtr.{Ptr, block_ptr, in_block, in_a_block}
 use denote.Steps.{nothing}
 use denote.Struct.Struct.{Struct, within}
 use denote.Struct.Owning.{Owning, shape}

@@ -1,2 +1,3 @@
 pub mod Holding
 pub mod Cutting
+pub mod Sending

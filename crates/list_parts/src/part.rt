@@ -16,3 +16,5 @@ pub struct Part<T> {
 impl<T> Model for Part<T> {
     ghost also_owns = { λ p. full_row T.row p.start p.len p.items };
 }
+
+unsafe impl<T: Send> Send for Part<T> {}

@@ -1,5 +1,5 @@
 -- The pointer goes on by the first part's size, and each half takes its places.
-use Rattle.atomic_table.proofs.Names.{◌≡◌, ℕ, ◌+◌, ◌-◌, ◌*◌, ◌^◌, ◌<◌, ◌≤◌, List, [], ◌∷◌, ◌++◌, length, sym, refl, ap, ◌∙◌, subst, arith, w64, a_type, Val, vint, vstruct, vcons, inst_fn, SProp, ent, emp, id⊢, Lft, Share, ftrue, flft, ‵, raw, ◌⊛◌, at_ret, ◌$◌, ◌∵◌, !, qed, by, move, keep, drop, split, join, fsplit, fsplit3, fjoin, fjoin3, fpack, feq_i, feq_l, flt_l, use0, use1, suffices, stop, fld, of_opd, no_more, and_then, first, blocks, exec, bin, size_word, returns, enter, alloc_all, pass_all, free_all, look_at, get, get_in, sets, sets_last, is, env, agg, sub, whole, tables, no, yes, RattleType, Valss, owns, types_at, plain, Ptr, block_ptr, ptr_val, nothing, param, layouts, Stays, stay_dropped, walk_of, Goes-dropped, fact, fact_i, heard, usize, Tuple, WT, WpFn, ◌⊑◌}
+use Rattle.atomic_table.proofs.Names.{◌≡◌, ℕ, ◌+◌, ◌-◌, ◌*◌, ◌^◌, ◌<◌, ◌≤◌, List, [], ◌∷◌, ◌++◌, length, sym, refl, ap, ◌∙◌, subst, arith, w64, a_type, Val, vint, vstruct, vcons, inst_fn, SProp, ent, emp, id⊢, Lft, Share, ftrue, flft, ‵, raw, ◌⊛◌, at_ret, ◌$◌, ◌∵◌, !, qed, by, move, keep, drop, split, join, fsplit, fjoin, fjoin3, fpack, feq_i, feq_l, flt_l, use0, use1, suffices, stop, fld, of_opd, no_more, and_then, first, blocks, exec, bin, size_word, returns, enter, alloc_all, pass_all, free_all, look_at, get, get_in, sets, sets_last, is, env, agg, sub, whole, tables, no, yes, RattleType, Valss, owns, types_at, plain, block_ptr, nothing, param, layouts, Stays, stay_dropped, walk_of, Goes-dropped, fact, fact_i, heard, usize, WpFn, ◌⊑◌}
 use mir.Val.{vnil}
 use denote.Struct.Struct.{within}
 use denote.Struct.Declared as Declared

@@ -1,5 +1,5 @@
 -- A full row gives up its places.
-use Rattle.atomic_table.proofs.Names.{◌≡◌, ℕ, ◌*◌, ◌^◌, ◌<◌, List, [], ◌∷◌, ◌++◌, length, sym, refl, ◌∙◌, subst, arith, a_type, Val, inst_fn, SProp, ent, emp, via, id⊢, Lft, Share, ftrue, flft, ‵, raw, ◌⊛◌, given, later, at_ret, ◌$◌, ◌∵◌, !, qed, by, move, keep, split, join, fsplit, fjoin, learn, use0, use1, use2, await, stop, fld, of_opd, no_more, and_then, first, blocks, exec, returns, enter, alloc_all, pass_all, free_all, look_at, get, get_in, sets, lands_last, is, env, agg, sub, whole, tables, no, RattleType, owns, types_at, plain, Ptr, block_ptr, nothing, param, layouts, Stays, stay_dropped, walk_of, Goes-dropped, fact, fact_i, heard, Bool, WT, WpFn, ◌⊑◌, calls_at_last}
+use Rattle.atomic_table.proofs.Names.{◌≡◌, ℕ, List, [], ◌∷◌, ◌++◌, length, sym, refl, ◌∙◌, subst, arith, a_type, Val, inst_fn, SProp, ent, emp, via, id⊢, Lft, Share, ftrue, flft, ‵, raw, ◌⊛◌, given, later, at_ret, ◌$◌, ◌∵◌, !, qed, by, move, keep, split, join, fsplit, fjoin, learn, use0, use1, use2, await, stop, fld, of_opd, no_more, and_then, first, blocks, exec, returns, enter, alloc_all, pass_all, free_all, look_at, get, get_in, sets, lands_last, is, env, agg, sub, whole, tables, no, RattleType, owns, types_at, plain, Ptr, block_ptr, nothing, param, layouts, Stays, stay_dropped, walk_of, Goes-dropped, fact, fact_i, heard, Bool, WT, WpFn, ◌⊑◌, calls_at_last}
 use Rattle.atomic_table.proofs.Walks.{proved_at, leaves}
 use Rattle.atomic_table.proofs.Calls.{fm}
 use Rattle.atomic_table.proofs.Raw.{Row, all as places, parts_typed, Row-seen, Into, at_into, Into-goes, Into-gives}
@@ -10,7 +10,7 @@ use Rattle.core.proofs.slots.Opens.{row_val}
 use Rattle.core.proofs.slots.Places.{to_row, of_row}
 use Rattle.core.proofs.slots.Slots.into_raw_parts.Met as callee
 use Rattle.list_parts.specs.Parts.{part_items, part_start, part_len}
-use Rattle.list_parts.proofs.Holding.{Pr, part_d, part_made}
+use Rattle.list_parts.proofs.Holding.{part_d, part_made}
 use Rattle.list_parts.proofs.Cutting.{full as full_places}
 use Rattle.list_parts.specs.contracts.part.Part.of.{ended, clauses}
 use Rattle.list_parts.specs.contracts.part.Part.of.Key.{name as #self}
