@@ -1,10 +1,14 @@
--- Words on a `Part`.
+-- Words on a `Part`. Those that speak of memory take the size of a value, and no type: a caller's row of a type parameter and its callee's may differ.
 use Rattle.core.specs.Prelude.{◌≡◌, ℕ, ◌*◌, ◌^◌, ◌<◌, List, length}
-use denote.RattleType.{RattleType}
-use denote.RawPtr.{Ptr}
-use Rattle.core.specs.Mem.{type_size}
-use Rattle.core.specs.Ptr.{ptr_add}
+use denote.RawPtr.{Ptr, ◌+ₚ◌}
+use Rattle.core.specs.Mem.Slots.{slots_items, slots_ptr, slots_len}
+use Rattle.core.specs.declared.slots.Slots.{Slots}
 use Rattle.list_parts.specs.declared.part.Part.{Part}
+
+-- so many values of that size can lie in one list
+pub record Fits (size n : ℕ) : Type 0 where
+  pub count : n < 2 ^ 64
+  pub bytes : n * size < 2 ^ 63
 
 module _ {X : Type 0} where
   abbrev pub part_items : Part X → List X
@@ -14,19 +18,23 @@ module _ {X : Type 0} where
   abbrev pub part_start : Part X → Ptr
   part_start part = part.start
 
-  abbrev pub part_len : Part X → ℕ
-  part_len part = part.len
-
-  -- both lie at the same places
+  -- both are the same places
   pub record SamePlaces (a b : Part X) : Type 0 where
     pub start : part_start b ≡ part_start a
     pub count : length (part_items b) ≡ length (part_items a)
 
--- b begins where a ends
-abbrev pub Follows : (R : RattleType) → Part R.Denot → Part R.Denot → Type 0
-Follows R a b = part_start b ≡ ptr_add R (length (part_items a)) (part_start a)
+  -- b begins where a ends
+  pub record Follows (size : ℕ) (a b : Part X) : Type 0 where
+    pub start : part_start b ≡ part_start a +ₚ length (part_items a) * size
 
--- so many values of R can lie in one list
-pub record Fits (R : RattleType) (n : ℕ) : Type 0 where
-  pub count : n < 2 ^ 64
-  pub bytes : n * type_size R < 2 ^ 63
+  -- the part is a list's whole row of values
+  pub record Covers (size : ℕ) (part : Part X) (xs : List X) : Type 0 where
+    pub are : part_items part ≡ xs
+    pub fits : Fits size (length xs)
+
+  -- the part is all of a row of slots
+  pub record Lies (size : ℕ) (part : Part X) (row : Slots X) : Type 0 where
+    pub start : part_start part ≡ slots_ptr row
+    pub count : length (part_items part) ≡ slots_len row
+    pub items : part_items part ≡ slots_items row
+    pub fits : Fits size (length (part_items part))

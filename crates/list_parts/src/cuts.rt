@@ -1,5 +1,6 @@
 //! A part is cut in two, and neighbours are glued together.
 ghost use Rattle.std.specs.Prelude.{◌≡◌, ◌+◌, ◌≤◌, ◌++◌, length, take, drop};
+ghost use Rattle.core.specs.Mem.{type_size};
 ghost use Rattle.list_parts.specs.Parts.{part_items, part_start, Follows, Fits};
 
 use crate::part::Part;
@@ -8,9 +9,9 @@ impl<T> Part<T> {
     /// The first `at` values, and the others.
     pub fn cut(self, at: usize) -> (Part<T>, Part<T>)
         requires { at ≤ length (part_items self) }
-        ensures place { (part_start result.0 ≡ part_start self) × Follows T.row result.0 result.1 }
+        ensures place { (part_start result.0 ≡ part_start self) × Follows (type_size T.row) result.0 result.1 }
         ensures items { (part_items result.0 ≡ take at (part_items self)) × (part_items result.1 ≡ drop at (part_items self)) }
-        ensures size { Fits T.row (length (part_items self)) }
+        ensures size { Fits (type_size T.row) (length (part_items self)) }
     {
         let Part { start, len } = self;
         let middle = unsafe { start.add(at) };
@@ -24,8 +25,8 @@ impl<T> Part<T> {
 
     /// This part with the values of `next` behind its own.
     pub fn glue(self, next: Part<T>) -> Part<T>
-        requires neighbours { Follows T.row self next }
-        requires size { Fits T.row (length (part_items self) + length (part_items next)) }
+        requires neighbours { Follows (type_size T.row) self next }
+        requires size { Fits (type_size T.row) (length (part_items self) + length (part_items next)) }
         ensures place { part_start result ≡ part_start self }
         ensures items { part_items result ≡ part_items self ++ part_items next }
     {

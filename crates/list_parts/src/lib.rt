@@ -3,7 +3,10 @@
 #![tactic(auto)]
 
 mod cuts;
+mod lend;
 mod part;
 mod rows;
+mod writes;
 
+pub use lend::with_part;
 pub use part::Part;

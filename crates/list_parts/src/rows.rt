@@ -1,7 +1,7 @@
 //! A part is a full row of slots.
-ghost use Rattle.std.specs.Prelude.{◌≡◌};
-ghost use Rattle.core.specs.Mem.Slots.{slots_items, slots_ptr, slots_len, IsFull};
-ghost use Rattle.list_parts.specs.Parts.{part_items, part_start, part_len};
+ghost use Rattle.core.specs.Mem.Slots.{IsFull};
+ghost use Rattle.core.specs.Mem.{type_size};
+ghost use Rattle.list_parts.specs.Parts.{Lies};
 
 use crate::part::Part;
 use core::slots::Slots;
@@ -9,7 +9,7 @@ use core::slots::Slots;
 impl<T> Part<T> {
     pub(crate) fn of(row: Slots<T>) -> Part<T>
         requires { IsFull row }
-        ensures { (part_start result ≡ slots_ptr row) × (part_len result ≡ slots_len row) × (part_items result ≡ slots_items row) }
+        ensures { Lies (type_size T.row) result row }
     {
         let parts = unsafe { row.into_raw_parts() };
         Part {
@@ -19,7 +19,7 @@ impl<T> Part<T> {
     }
 
     pub(crate) fn into_slots(self) -> Slots<T>
-        ensures { (slots_ptr result ≡ part_start self) × (slots_len result ≡ part_len self) × (slots_items result ≡ part_items self) × IsFull result }
+        ensures { Lies (type_size T.row) self result × IsFull result }
     {
         let Part { start, len } = self;
         unsafe { Slots::from_raw_parts(start, len) }

@@ -53,9 +53,9 @@ cut_spec 𝓤 𝓛 𝓜 𝓡 wired T L =
     nothing ! $ move ! (2 ∷ 1 ∷ 0 ∷ []) $ fjoin3 ! $ feq_i ! (List Val) (pair ∷ []) (pair ∷ []) refl $ fjoin ! $
     fpack ! (Valss (Pr E ∷ Pr E ∷ [])) (within (Declared.shape (tuple_type (Pr E ∷ Pr E ∷ []))) (one, (other, tt)) (pair ∷ [])) (row_val b o n ∷ [], (row_val b middle rest ∷ [], tt)) $
     nothing ! $ move ! (2 ∷ 0 ∷ []) $ join ! $
-    let Place : Type 0 = (part_start one ≡ part_start d) × Follows R one other in let Items : Type 0 = (part_items one ≡ lists.take n xs) × (part_items other ≡ lists.drop n xs) in let Size : Type 0 = Fits R (length xs) in
-    use0 𝓛 (raw (fact 𝓤 Size)) (fact_i 𝓤 Size (emp 𝓤) (subst (λ (j : ℕ). Fits R j) d.counted (record { count = fk; bytes = fit }))) $
+    let Place : Type 0 = (part_start one ≡ part_start d) × Follows s one other in let Items : Type 0 = (part_items one ≡ lists.take n xs) × (part_items other ≡ lists.drop n xs) in let Size : Type 0 = Fits s (length xs) in
+    use0 𝓛 (raw (fact 𝓤 Size)) (fact_i 𝓤 Size (emp 𝓤) (subst (λ (j : ℕ). Fits s j) d.counted (record { count = fk; bytes = fit }))) $
     use0 𝓛 (raw (fact 𝓤 Items)) (fact_i 𝓤 Items (emp 𝓤) (refl, refl)) $ join ! $
-    use0 𝓛 (raw (fact 𝓤 Place)) (fact_i 𝓤 Place (emp 𝓤) (sym at, ap (λ (j : ℕ). block_ptr b (j * s + o)) (sym (length-take-le n xs low)))) $ join ! $
+    use0 𝓛 (raw (fact 𝓤 Place)) (fact_i 𝓤 Place (emp 𝓤) (sym at, record { start = ap (block_ptr b) (let swap : n * s + o ≡ o + n * s = omega arith in swap) ∙ ap (λ (j : ℕ). block_ptr b (o + j * s)) (sym (length-take-le n xs low)) })) $ join ! $
     nothing ! $ nothing ! $ fjoin ! $ nothing ! $ fjoin ! $
     returns ! (look_at ! 0 refl) $ free_all ! refl $ keep ! (2 ∷ 0 ∷ 3 ∷ 1 ∷ []) $ by ! (leaves 𝓛 En hs c z pair (one, other) (tt, (tt, tt)) (tt, (tt, tt))))))))))

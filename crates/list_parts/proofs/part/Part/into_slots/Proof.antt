@@ -5,11 +5,13 @@ use mathlib.Core.Bool.{false}
 use Rattle.atomic_table.proofs.Walks.{proved_at, leaves}
 use Rattle.atomic_table.proofs.Calls.{fm}
 use Rattle.atomic_table.proofs.Raw.{Row, row_Typed, From, at_from, Made, from_goes, from_gives}
-use Rattle.core.specs.Mem.Slots.{slots_items, slots_ptr, slots_len, IsFull}
+use Rattle.core.specs.Mem.Slots.{IsFull}
 use Rattle.core.proofs.mem.Param.{El}
 use Rattle.core.proofs.slots.Bodies.{after}
+use Rattle.core.proofs.slots.Places.{sz}
 use Rattle.core.proofs.slots.Opens.{row_val}
 use Rattle.core.proofs.slots.Slots.from_raw_parts.Met as callee
+use Rattle.list_parts.specs.Parts.{Lies, Fits}
 use Rattle.list_parts.proofs.Holding.{Pr, part_d, flags, part_had}
 use Rattle.list_parts.specs.contracts.part.Part.into_slots.{ended, clauses}
 use Rattle.list_parts.specs.contracts.part.Part.into_slots.Key.{name as #self}
@@ -20,6 +22,7 @@ pub into_slots_spec : {M : Type 1} → statement M
 into_slots_spec 𝓤 𝓛 𝓜 𝓡 wired T L =
     let H = 𝓛.H in let 𝓣 = tables 𝓤 H 𝓜 𝓡 𝓡.env in let R : RattleType = param 0 T in let E : El = record { row = T; laws = L } in let En = ended T in
     let inst = layouts (a_type ∷ []) (T, tt) in let fn = inst_fn inst code.function in let c = clauses T 𝓛 𝓜.mem 𝓡.returns in
+    let s : ℕ = sz E in
     let met = callee.met 𝓤 𝓛 𝓜 𝓡 (code.calls-core::slots::Slots::from_raw_parts 𝓡.env wired) T L in
     let hs : Stays En.signature.params En.kept = (stay_dropped (plain (λ _. Pr E)) no, tt) in
     proved_at 𝓛 En hs c 𝓜 𝓡 (Goes-dropped 𝓛 1 (plain (λ _. Pr E)) no (λ κs x f. refl), tt) (#self inst) fn (code.unfolded 𝓤 H 𝓜 𝓡 wired (T, tt)) (λ z are.
@@ -37,7 +40,7 @@ into_slots_spec 𝓤 𝓛 𝓜 𝓡 wired T L =
     use1 𝓛 (later (some (λ (r : (Row E).Denot). given ((v ≡ row_val b o k) × Made E 𝓛 𝓜.mem 𝓡.returns κ q b o k xs fs r) (‵ ((Row E).own_val r (row_val b o k ∷ [])) ⊛ ‵ (flft κ q)))))
     (from_gives E 𝓛 𝓜.mem 𝓡.returns κ q b o k xs fs v) $ await ! tt $ pick ! (λ r. learn ! (λ got. split ! $ let made = got.1 in
     let full : IsFull r = λ j low high. let near : j < length xs = subst (λ (n : ℕ). j < n) (made.1 ∙ lx) high in ap (λ (gs : List Bool). get_or gs j false) made.3 ∙ get_or-replicate (length xs) j true false near in
-    let Told : Type 0 = (slots_ptr r ≡ d.start) × (slots_len r ≡ k) × (slots_items r ≡ xs) × IsFull r in
+    let Told : Type 0 = Lies s d r × IsFull r in
     lands_last ! refl (row_Typed E v b o k got.0 fk) $ exec ! 𝓣.C 𝓣.Λ Ev (after 3 fn.body) (at_ret Ev Post) $ sets ! (is ! (of_opd ! (get ! refl)) got.0) refl (tt, words) $
-    nothing ! $ move ! (2 ∷ 0 ∷ []) $ join ! $ use0 𝓛 (raw (fact 𝓤 Told)) (fact_i 𝓤 Told (emp 𝓤) (made.0 ∙ sym at, made.1, made.2, full)) $ nothing ! $ nothing ! $ fjoin ! $
+    nothing ! $ move ! (2 ∷ 0 ∷ []) $ join ! $ use0 𝓛 (raw (fact 𝓤 Told)) (fact_i 𝓤 Told (emp 𝓤) (record { start = at ∙ sym made.0; count = sym lx ∙ sym made.1; items = sym made.2; fits = subst (λ (j : ℕ). Fits s j) lx (record { count = fk; bytes = fit }) }, full)) $ nothing ! $ nothing ! $ fjoin ! $
     returns ! (look_at ! 0 refl) $ free_all ! refl $ keep ! (2 ∷ 0 ∷ 3 ∷ 1 ∷ []) $ by ! (leaves 𝓛 En hs c z (row_val b o k) r (tt, tt) (tt, tt)))))))))
