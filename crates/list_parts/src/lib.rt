@@ -10,3 +10,6 @@ mod writes;
 
 pub use lend::with_part;
 pub use part::Part;
+
+#[cfg(test)]
+mod tests;

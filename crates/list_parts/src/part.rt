@@ -6,6 +6,7 @@ use std::marker::Model;
 
 /// A run of places of a list, each with its value. It is owned: a part may be cut, moved into another value or sent to a thread,
 /// and neighbours are glued together again.
+#[derive(Drop)]
 pub struct Part<T> {
     pub(crate) start: *mut T,
     pub(crate) len: usize,

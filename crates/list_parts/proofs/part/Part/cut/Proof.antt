@@ -46,7 +46,6 @@ cut_spec 𝓤 𝓛 𝓜 𝓡 wired T L =
     sets ! (agg ! (and_then ! (get ! refl) (and_then ! (get ! refl) (no_more !)))) refl (tt, (tt, (record { fits = fa }, tt))) $
     sets ! (bin ! (get ! refl) (get ! refl) within_len) refl (tt, record { fits = fr }) $
     sets ! (agg ! (and_then ! (get ! refl) (and_then ! (get ! refl) (no_more !)))) refl (tt, (tt, (record { fits = fr }, tt))) $
-    sets ! (of_opd ! (get ! refl)) refl (tt, (tt, (record { fits = fa }, tt))) $ sets ! (of_opd ! (get ! refl)) refl (tt, (tt, (record { fits = fr }, tt))) $
     sets ! (agg ! (and_then ! (get ! refl) (and_then ! (get ! refl) (no_more !)))) refl (tt, ((tt, (record { fits = fa }, tt)), ((tt, (record { fits = fr }, tt)), tt))) $
     use1 𝓛 (‵ (full E 𝓛 b o o (lists.take n xs)) ⊛ ‵ (full E 𝓛 b o middle (lists.drop n xs))) (cut_at E 𝓛 b o xs n low) $ split ! $
     part_made E ! one b o refl fa fits_n $ move ! (1 ∷ []) $ part_made E ! other b middle refl fr fits_rest $
