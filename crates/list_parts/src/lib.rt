@@ -4,6 +4,7 @@
 
 mod cuts;
 mod lend;
+mod lends;
 mod part;
 mod rows;
 mod writes;
