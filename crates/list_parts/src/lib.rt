@@ -5,6 +5,7 @@
 mod cuts;
 mod lend;
 mod lends;
+mod maps;
 mod part;
 mod rows;
 mod writes;

@@ -15,11 +15,12 @@ fn mend(whole: Part<u64>, _nothing: ()) -> (Part<u64>, ())
     (front.glue(middle).glue(back), ())
 }
 
-fn pair(part: Part<u64>, first: u64, second: u64) -> Part<u64>
+fn pair(mut part: Part<u64>, first: u64, second: u64) -> Part<u64>
     requires { length (part_items part) ≡ 2 }
     ensures { SamePlaces part result }
 {
-    part.set(0, first).set(1, second)
+    part.map_in(&[first, second], &|x: u64| x);
+    part
 }
 
 fn in_two_threads<R: Threads>(whole: Part<u64>, rt: &R) -> (Part<u64>, ())
