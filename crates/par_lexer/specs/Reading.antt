@@ -2,10 +2,6 @@
 use Rattle.std.specs.Prelude.{ℕ, Bool, false, not, ◌||◌, List, [], ◌∷◌, nat_le, ◌==◌, if◌then◌else◌}
 use Rattle.source_meaning.specs.Lexemes.{is_letter, is_digit, is_blank}
 
--- how many states there are
-abbrev pub state_count : ℕ
-state_count = 16
-
 -- nothing has been read
 abbrev pub nothing : ℕ
 nothing = 0

@@ -13,7 +13,9 @@ use std::sync::atomic::{AtomicU64, Ordering};
 use std::test::*;
 use std::thread::Threads;
 
-const PLANS: [(u32, u32); 9] = [
+const PLANS: [(u32, u32); 11] = [
+    (4, 2),
+    (4, 1024),
     (1, 1),
     (1, 7),
     (1, 65536),
@@ -97,6 +99,8 @@ fn tokens_of_every_plan(rt: HostRuntime) -> Result<(), Fail> {
         tokens_are(&rt, alloc, &plan, function, &FUNCTION)?;
         tokens_are(&rt, alloc, &plan, b"1<=2 == true", &COMPARED)?;
         tokens_are(&rt, alloc, &plan, b"", &[])?;
+        tokens_are(&rt, alloc, &plan, b"7// end", &[(Terminal::Digits, 0, 1)])?;
+        tokens_are(&rt, alloc, &plan, b"7// end\n", &[(Terminal::Digits, 0, 1)])?;
         let large = [(Terminal::Digits, 0, 10)];
         tokens_are(&rt, alloc, &plan, b"2147483647", &large)?;
     }
@@ -148,19 +152,44 @@ fn chunks_cut_anywhere(rt: HostRuntime) -> Result<(), Fail> {
     Ok(())
 }
 
-// A piece of a thousand bytes, from one byte again and again.
+// A piece of a megabyte, from one byte again and again.
 #[test]
 fn long_pieces(rt: HostRuntime) -> Result<(), Fail> {
     let alloc = rt.alloc();
-    let plan = Plan::new(4, 7).ok_or("in range")?;
-    let name = vec![in alloc; b'a'; 1000]?;
-    tokens_are(&rt, alloc, &plan, &name, &[(Terminal::Ident, 0, 1000)])?;
-    let zeros = vec![in alloc; b'0'; 1000]?;
-    tokens_are(&rt, alloc, &plan, &zeros, &[(Terminal::Digits, 0, 1000)])?;
-    let comment = vec![in alloc; b'/'; 1000]?;
+    let plan = Plan::new(4, 1024).ok_or("in range")?;
+    let name = vec![in alloc; b'a'; 1_048_576]?;
+    tokens_are(&rt, alloc, &plan, &name, &[(Terminal::Ident, 0, 1_048_576)])?;
+    let zeros = vec![in alloc; b'0'; 1_048_576]?;
+    tokens_are(
+        &rt,
+        alloc,
+        &plan,
+        &zeros,
+        &[(Terminal::Digits, 0, 1_048_576)],
+    )?;
+    let comment = vec![in alloc; b'/'; 1_048_576]?;
     tokens_are(&rt, alloc, &plan, &comment, &[])?;
-    let ones = vec![in alloc; b'1'; 1000]?;
+    let ones = vec![in alloc; b'1'; 1_048_576]?;
     fault_is(&rt, alloc, &plan, &ones, 102, 0)
+}
+
+// Bytes that begin no lexeme, in comments and out of them.
+#[test]
+fn bytes_of_no_lexeme(rt: HostRuntime) -> Result<(), Fail> {
+    let alloc = rt.alloc();
+    let plan = Plan::new(4, 2).ok_or("in range")?;
+    for byte in 127..=255u8 {
+        let byte = if byte == 127 { 0 } else { byte };
+        fault_is(&rt, alloc, &plan, &[b'7', byte], 101, 1)?;
+        tokens_are(
+            &rt,
+            alloc,
+            &plan,
+            &[b'/', b'/', byte, b'\n', b'7'],
+            &[(Terminal::Digits, 4, 1)],
+        )?;
+    }
+    Ok(())
 }
 
 #[test]

@@ -1,11 +1,11 @@
 //! Passes over the numbers of items: their places, and values made from numbers.
-ghost use Rattle.std.specs.Prelude.{◌≡◌, ℕ, ◌+◌, ◌-◌, ◌<◌, ◌≤◌, ◌^◌, ◌++◌, Bool, length, All, map, IfOk};
+ghost use Rattle.std.specs.Prelude.{◌≡◌, ℕ, ◌+◌, ◌-◌, ◌*◌, ◌<◌, ◌≤◌, ◌^◌, ◌++◌, min, Bool, length, All, map, IfOk};
 ghost use Rattle.std.specs.List.{range_with_len};
 ghost use Rattle.chunk_seats.specs.Chunks.{chunk_of};
 ghost use Rattle.par_passes.specs.Passes.{Maps, marked};
 
 use crate::chunk::{chunk_slice, chunk_start, count_chunks};
-use crate::crew::by_chunks;
+use crate::crew::{by_chunks, by_whole_chunks};
 use crate::marked::push_if;
 use chunk_seats::{Gate, Plan};
 use std::alloc::{AllocError, Global};
@@ -117,7 +117,8 @@ fn tabulate_onto<U: Copy, F: Fn(u32) -> U>(
 ) -> Result<(), AllocError>
     requires order { from ≤ to }
     requires callable { All (F.pre f.now) (range_with_len from (to - from)) }
-    ensures { IfOk result (λ _. (g : ℕ → U) → All (λ k. (r : U) → F.post f.now k r → r ≡ g k) (range_with_len from (to - from)) → out.new.items ≡ out.old.items ++ map g (range_with_len from (to - from))) }
+    ensures values { IfOk result (λ _. (g : ℕ → U) → All (λ k. (r : U) → F.post f.now k r → r ≡ g k) (range_with_len from (to - from)) → out.new.items ≡ out.old.items ++ map g (range_with_len from (to - from))) }
+    ensures whole { IfOk result (λ _. length out.new.items ≡ length out.old.items + (to - from)) }
 {
     for k in from..to {
         out.push(f(k))?;
@@ -134,7 +135,8 @@ fn tabulate_chunk_onto<U: Copy, F: Fn(u32) -> U>(
     out: &mut Vec<U>,
 ) -> Result<(), AllocError>
     requires callable { All (F.pre f.now) (range_with_len 0 count) }
-    ensures { IfOk result (λ _. (g : ℕ → U) → All (λ k. (r : U) → F.post f.now k r → r ≡ g k) (chunk_of size (range_with_len 0 count) c) → out.new.items ≡ out.old.items ++ map g (chunk_of size (range_with_len 0 count) c)) }
+    ensures values { IfOk result (λ _. (g : ℕ → U) → All (λ k. (r : U) → F.post f.now k r → r ≡ g k) (chunk_of size (range_with_len 0 count) c) → out.new.items ≡ out.old.items ++ map g (chunk_of size (range_with_len 0 count) c)) }
+    ensures whole { IfOk result (λ _. length out.new.items ≡ length out.old.items + min size (count - c * size)) }
 {
     let from = chunk_start(count as usize, size, c) as u32;
     let to = from + (count - from).min(size);
@@ -150,7 +152,8 @@ fn tabulate_chunk<U: Copy, F: Fn(u32) -> U>(
     f: &F,
 ) -> Result<Vec<U>, AllocError>
     requires callable { All (F.pre f.now) (range_with_len 0 count) }
-    ensures { IfOk result (λ v. Maps (F.post f.now) (chunk_of size (range_with_len 0 count) c) v.items) }
+    ensures values { IfOk result (λ v. Maps (F.post f.now) (chunk_of size (range_with_len 0 count) c) v.items) }
+    ensures whole { IfOk result (λ v. length v.items ≡ min size (count - c * size)) }
 {
     let mut out = Vec::with_capacity(alloc, size as usize)?;
     tabulate_chunk_onto(count, size, c, f, &mut out)?;
@@ -196,8 +199,8 @@ pub fn tabulate<U: Copy + Send + Sync, F: Fn(u32) -> U + Sync, G: Gate, R: Threa
     }
     let make = |c: u64| -> Result<Vec<U>, AllocError>
         requires { All (F.pre f.now) (range_with_len 0 count) }
-        ensures { IfOk result (λ v. Maps (F.post f.entry.now) (chunk_of size (range_with_len 0 count) c) v.items) }
+        ensures values { IfOk result (λ v. Maps (F.post f.entry.now) (chunk_of size (range_with_len 0 count) c) v.items) }
+        ensures whole { IfOk result (λ v. length v.items ≡ min size (count - c * size)) }
     { tabulate_chunk(alloc, count, size, c, f) };
-    let chunks = count_chunks(count as usize, size);
-    by_chunks(rt, alloc, plan, gate, chunks, count as usize, &make)
+    by_whole_chunks(rt, alloc, plan, gate, f(0), count as usize, &make)
 }

@@ -8,7 +8,7 @@ use Rattle.par_passes.proofs.numbered.tabulate_in_turn.Goals as goal
 
 pub loop-c-preserved : goal.loop-c-preserved
 loop-c-preserved g c =
-    maps_more (given.F-post g c.args.f.now) c.args.plan.now.chunk c.loop-c.c (range_with_len 0 c.args.count) _ c.loop-c.out.items _ refl c.loop-c.invariant c.in_ok-tabulate_chunk_onto.ensures
+    maps_more (given.F-post g c.args.f.now) c.args.plan.now.chunk c.loop-c.c (range_with_len 0 c.args.count) _ c.loop-c.out.items _ refl c.loop-c.invariant c.in_ok-tabulate_chunk_onto.ensures.values
 
 pub returns : goal.returns
 returns g c = λ h computes.
