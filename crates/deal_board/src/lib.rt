@@ -1,0 +1,10 @@
+//! Items that workers draw from a shared board, change, and put back. Each draw is one atomic step: nothing is retried, and no call
+//! waits for another thread.
+#![tactic(auto)]
+
+mod board;
+mod goods;
+mod item;
+
+pub use board::{DealBoard, Seat};
+pub use goods::Goods;
