@@ -1,5 +1,5 @@
 -- Words on a `Part`. Those that speak of memory take the size of a value, and no type: a caller's row of a type parameter and its callee's may differ.
-use Rattle.core.specs.Prelude.{◌≡◌, ℕ, ◌*◌, ◌^◌, ◌<◌, List, length}
+use Rattle.core.specs.Prelude.{◌≡◌, ℕ, ◌*◌, ◌^◌, ◌<◌, List, [], ◌∷◌, length}
 use denote.RawPtr.{Ptr, ◌+ₚ◌}
 use Rattle.core.specs.Mem.Slots.{slots_items, slots_ptr, slots_len}
 use Rattle.core.specs.declared.slots.Slots.{Slots}
@@ -38,3 +38,9 @@ module _ {X : Type 0} where
     pub count : length (part_items part) ≡ slots_len row
     pub items : part_items part ≡ slots_items row
     pub fits : Fits size (length (part_items part))
+
+module _ {X : Type 0} where
+  -- the parts lie one behind the other from p on
+  abbrev pub Chain : ℕ → Ptr → List (Part X) → Type 0
+  Chain size p [] = Unit {0}
+  Chain size p (x ∷ xs) = (part_start x ≡ p) × Chain size (p +ₚ length (part_items x) * size) xs

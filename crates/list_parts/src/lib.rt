@@ -2,6 +2,7 @@
 //! glued to its neighbour again.
 #![tactic(auto)]
 
+mod chunks;
 mod cuts;
 mod lend;
 mod lends;
