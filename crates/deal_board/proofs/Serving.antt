@@ -1,6 +1,7 @@
 -- Each step of a board keeps its rule.
-use Rattle.std.proofs.Common.{◌≡◌, ◌≢◌, ◌⊎◌, ℕ, zero, suc, ◌+◌, ◌-◌, ◌%◌, ◌<◌, ◌≤◌, ◌^◌, min, List, [], ◌∷◌, ◌++◌, length, get_or, set, Some, slice_get, IfSome, refl, sym, ap, ◌∙◌, subst, ⊎_elim, arith, inl, inr, length-append, length-set, lt_of_not-le}
+use Rattle.std.proofs.Common.{◌≡◌, ◌≢◌, ◌⊎◌, ℕ, zero, suc, ◌+◌, ◌-◌, ◌%◌, ◌<◌, ◌≤◌, ◌^◌, min, List, [], ◌∷◌, ◌++◌, length, get_or, set, Bool, true, false, Some, None, slice_get, slice_index_or, IfSome, refl, sym, ap, ◌∙◌, subst, ⊎_elim, arith, inl, inr, length-append, length-set, lt_of_not-le}
 use Rattle.std.proofs.lemmas.List.{length-map}
+use Rattle.std.proofs.lemmas.Option.{none-some}
 use mathlib.Core.Logic.{dite}
 use mathlib.Core.Option.{Option, none, some, some-injective, some-ne-none}
 use native.Mathlib.Decide.{dec_le, ℕ_discrete}
@@ -15,6 +16,7 @@ use Rattle.chunk_seats.specs.Dealing.{Fits, Dealt}
 use Rattle.chunk_seats.proofs.Dealing.{cuts, joins}
 use Rattle.chunk_seats.proofs.Totals.{total_set, total_snoc, total_part, total_alone, total_le, every_set, one_same, one_other, times-append, times_snoc, at_get}
 use Rattle.deal_board.specs.Held.{settled, in_hand}
+use Rattle.deal_board.specs.Returned.{AreLeft}
 use Rattle.deal_board.specs.Rule.{claim_board, Served, Carries, Deals}
 
 as_slice : {T : Type 0} (l : List T) (k : ℕ) (x : T) → get_elem? l k ≡ some x → slice_get l k ≡ Some x
@@ -210,7 +212,9 @@ module _ {T : Type 0} where
       (λ not_over.
       let under : n < d.chunks = lt_of_not-le not_over in
       let w : ClaimView = claiming (settled v) n in
-      let item = there items n (omega (arith, under, r.slots.0)) in (
+      let item = there items n (omega (arith, under, r.slots.0)) in
+      let long = total_part (λ (u : ClaimView). length u.claimed) s.views id v at in let lengths = ns.lengths in
+      let often = total_part (λ (u : ClaimView). times n u.claimed) s.views id v at in let none_yet = (ns.once n).1 (omega arith) in (
         w,
         chain gives (takes n item.0),
         (tt, given.waiting n item.0 (omega arith) item.1),
@@ -224,7 +228,7 @@ module _ {T : Type 0} where
               (old.0, set_else hs n k none (λ q. absurd (omega arith)) ∙ old.1, old.2);
         },
         (
-          (λ h. (ap (claiming (settled v)) (sym found), (item.0, ap (λ (l : List (ℕ × T)). (n, item.0) ∷ l) (rest_none v cs carried) ∙ ap (λ (z : ℕ). (z, item.0) ∷ []) (sym found), ap (slice_get items) found ∙ as_slice items n item.0 item.1))),
+          (λ h. (ap (claiming (settled v)) (sym found), (subst (λ (z : ℕ). times z v.claimed ≡ 0) (sym found) (omega arith), omega arith), (item.0, ap (λ (l : List (ℕ × T)). (n, item.0) ∷ l) (rest_none v cs carried) ∙ ap (λ (z : ℕ). (z, item.0) ∷ []) (sym found), ap (slice_get items) found ∙ as_slice items n item.0 item.1))),
           λ h. absurd (omega arith),
         ),
       ))
@@ -300,3 +304,13 @@ module _ {T : Type 0} where
       let home = r.back k (omega arith) in
       let is : get_elem? xs k ≡ some home.0 = final.4 k home.0 home.1 in
       subst (good k) (some-injective home.0 x (sym is ∙ e)) home.2
+
+  emptied : (v : ClaimView) (cs : List (ℕ × T)) → Carries v cs → in_hand cs ≡ None → v.done ≡ v.claimed
+  emptied v [] carried empty = carried
+  emptied v (x ∷ cs) carried empty = absurd (none-some x (sym empty))
+
+  -- the slots of the closed table have all items
+  pub left : (items : List T) (good : ℕ → T → Type 0) (d : Deal) (id : ℕ) (me : Me T ClaimView) (ws : List ℕ) (xs : List T) (filled : List Bool) (len : ℕ) → Final (Seen (Served items good d) id me.0) ws xs
+      → me.0.weight ≡ d.seats → me.0.share ≡ 0 → 0 < me.0.weight → Carries me.0 me.1 → in_hand me.1 ≡ None → ((k : ℕ) → 0 ≤ k → k < len → slice_index_or filled k false ≡ true) → AreLeft good 0 len xs filled
+  left items good d id me ws xs filled len final all spent weighs carried empty full =
+      record { most = omega arith; there = full; gone = λ k h. absurd (omega arith); fine = λ k x le e. ends items good d id me.0 ws xs final all spent weighs (emptied me.0 me.1 carried empty) k x e }

@@ -32,5 +32,5 @@ Carries v (x ∷ y ∷ xs) = ⊥
 -- a draw from a board of k items: the item of the number drawn comes into the hand, or the hand is empty
 abbrev pub Deals : {T : Type 0} → List T → ℕ → Step T → Me T ClaimView → ℕ → Me T ClaimView → Type 0
 Deals {T} items k st m r m' =
-    (r < k → (m'.0 ≡ claiming (settled m.0) r) × ((x : T) × (m'.1 ≡ (r, x) ∷ []) × (slice_get items r ≡ Some x)))
+    (r < k → (m'.0 ≡ claiming (settled m.0) r) × ((times r m.0.claimed ≡ 0) × (length m.0.claimed < k)) × ((x : T) × (m'.1 ≡ (r, x) ∷ []) × (slice_get items r ≡ Some x)))
     × (k ≤ r → (m'.0 ≡ spending (settled m.0)) × (m'.1 ≡ []))

@@ -1,5 +1,6 @@
 //! A board with a slot for each item. It has one word, a counter, from which each draw takes the next number.
 ghost use Rattle.std.specs.Prelude.{◌≡◌, ℕ, ◌+◌, ◌-◌, ◌<◌, ◌≤◌, ◌^◌, length, slice_get, IfOk, IfErr, IfSome, IfNone, Some, None};
+ghost use Rattle.chunk_seats.specs.Tallies.{times};
 ghost use Rattle.chunk_seats.specs.Claims.{fresh, claiming, spending, giving, joining};
 ghost use Rattle.deal_board.specs.Held.{held, settled};
 
@@ -62,7 +63,7 @@ impl Join<ClaimView> for Glue {
 #[derive(Drop)]
 pub struct DealBoard<T, N: Goods<T>> {
     pub(crate) table: Table<T, ClaimView, Deal, Serving<N>, Global>,
-    count: u64,
+    pub(crate) count: u64,
 }
 
 impl<T, N: Goods<T>> Model for DealBoard<T, N> {
@@ -125,7 +126,7 @@ impl<T, N: Goods<T>> DealBoard<T, N> {
         requires unspent { 0 < seat.old.view.share }
         requires good { IfSome seat.old.hand (λ h. N.good h.0 h.1) }
         ensures board { seat.new.board ≡ seat.old.board }
-        ensures drawn { result < self.now.count → (seat.new.view ≡ claiming (settled seat.old.view) result) × ((x : T) × (seat.new.hand ≡ Some (result, x)) × (slice_get N.items result ≡ Some x)) }
+        ensures drawn { result < self.now.count → (seat.new.view ≡ claiming (settled seat.old.view) result) × (times result seat.old.view.claimed ≡ 0) × (length seat.old.view.claimed < self.now.count) × ((x : T) × (seat.new.hand ≡ Some (result, x)) × (slice_get N.items result ≡ Some x)) }
         ensures spent { self.now.count ≤ result → (seat.new.view ≡ spending (settled seat.old.view)) × (seat.new.hand ≡ None) }
     {
         self.table
@@ -139,7 +140,7 @@ impl<T, N: Goods<T>> DealBoard<T, N> {
         requires board { seat.old.board ≡ self.now.board }
         requires unspent { 0 < seat.old.view.share }
         requires good { IfSome seat.old.hand (λ h. N.good h.0 h.1) }
-        ensures some { IfSome result (λ c. (c < self.now.count) × ((x : T) × (seat.new ≡ held seat.old.board (claiming (settled seat.old.view) c) (Some (c, x))) × (slice_get N.items c ≡ Some x))) }
+        ensures some { IfSome result (λ c. (c < self.now.count) × ((x : T) × (seat.new ≡ held seat.old.board (claiming (settled seat.old.view) c) (Some (c, x))) × (slice_get N.items c ≡ Some x)) × (times c seat.old.view.claimed ≡ 0) × (length seat.old.view.claimed < self.now.count)) }
         ensures none { IfNone result (seat.new ≡ held seat.old.board (spending (settled seat.old.view)) None) }
     {
         let drawn = self.draw::<Brand>(seat);

@@ -5,6 +5,11 @@
 mod board;
 mod goods;
 mod item;
+mod returned;
 
 pub use board::{DealBoard, Seat};
 pub use goods::Goods;
+pub use returned::Returned;
+
+#[cfg(test)]
+mod tests;
