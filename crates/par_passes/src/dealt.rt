@@ -35,3 +35,54 @@ fn fill_drawn<T: Copy, U: Copy, F: Fn(T) -> U, N: Goods<Part<U>>, G: Gate>(
     }
     gate.after_claim(worker, None);
 }
+
+// That many workers, each in a thread of its own where threads can be made.
+fn fill_all<
+    T: Copy + Sync,
+    U: Copy + Send + Sync,
+    F: Fn(T) -> U + Sync,
+    N: Goods<Part<U>> + Send + Sync,
+    G: Gate,
+    R: Threads + Sync,
+>(
+    rt: &R,
+    board: &DealBoard<Part<U>, N>,
+    mut mine: Seat<Part<U>>,
+    gate: &G,
+    first: u32,
+    workers: u32,
+    items: &[T],
+    size: u32,
+    f: &F,
+) -> Seat<Part<U>>
+    requires board { mine.board ≡ board.now.board }
+    requires new { (mine.view ≡ fresh workers) × (mine.hand ≡ None) }
+    requires workers { (1 ≤ workers) × (first + workers ≤ 64) }
+    requires callable { All (F.pre f.now) items.now }
+    requires serves { Serves (F.post f.now) size items.now N.items N.good }
+    ensures board { result.board ≡ board.now.board }
+    ensures weight { result.view.weight ≡ workers }
+    ensures spent { (result.view.share ≡ 0) × (result.hand ≡ None) }
+{
+    if workers == 1 {
+        fill_drawn(board, &mut mine, gate, first, items, size, f);
+        return mine;
+    }
+    let half = workers / 2;
+    let rest = workers - half;
+    let after = first + rest;
+    let theirs = board.split(&mut mine, half);
+    let (mut one, two) = join(
+        rt,
+        move || -> Seat<Part<U>>
+            requires { IsSync R.row × (mine.board ≡ board.now.board) × (mine.view ≡ fresh rest) × (mine.hand ≡ None) × (1 ≤ rest) × (first + rest ≤ 64) × All (F.pre f.now) items.now × Serves (F.post f.now) size items.now N.items N.good }
+            ensures { (result.board ≡ board.entry.now.board) × (result.view.weight ≡ rest) × (result.view.share ≡ 0) × (result.hand ≡ None) }
+        { fill_all(rt, board, mine, gate, first, rest, items, size, f) },
+        move || -> Seat<Part<U>>
+            requires { IsSync R.row × (theirs.board ≡ board.now.board) × (theirs.view ≡ fresh half) × (theirs.hand ≡ None) × (1 ≤ half) × (after + half ≤ 64) × All (F.pre f.now) items.now × Serves (F.post f.now) size items.now N.items N.good }
+            ensures { (result.board ≡ board.entry.now.board) × (result.view.weight ≡ half) × (result.view.share ≡ 0) × (result.hand ≡ None) }
+        { fill_all(rt, board, theirs, gate, after, half, items, size, f) },
+    );
+    board.join(&mut one, two);
+    one
+}
