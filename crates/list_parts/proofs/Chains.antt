@@ -1,10 +1,10 @@
 -- Parts that lie one behind the other.
-use Rattle.std.proofs.Common.{◌≡◌, ◌⊎◌, ℕ, zero, suc, ◌+◌, ◌*◌, ◌≤◌, ◌^◌, List, [], ◌∷◌, ◌++◌, length, take, drop, flat_map, Some, slice_get, refl, sym, ap, ◌∙◌, inl, inr, ⊎_elim, arith, suc-mul}
+use Rattle.std.proofs.Common.{◌≡◌, ◌⊎◌, ℕ, zero, suc, ◌+◌, ◌*◌, ◌<◌, ◌≤◌, ◌^◌, List, [], ◌∷◌, ◌++◌, length, take, drop, flat_map, Some, slice_get, refl, sym, ap, ◌∙◌, inl, inr, ⊎_elim, arith, length-append, suc-mul, zero-mul}
 use Rattle.std.proofs.lemmas.Grind.{flat_map-append}
-use Rattle.std.proofs.lemmas.List.{append-nil, append_assoc, drop-drop, length-drop, take_all}
+use Rattle.std.proofs.lemmas.List.{append-nil, append_assoc, drop-drop, length-drop, take_all, take-append-drop}
 use Rattle.std.proofs.lemmas.Option.{none-some}
-use denote.RawPtr.{Ptr, ◌+ₚ◌}
-use Rattle.core.proofs.ptr.Rows.{times_below}
+use denote.RawPtr.{Ptr, block_ptr, null_ptr, ◌+ₚ◌}
+use Rattle.core.proofs.ptr.Rows.{times_below, add_times}
 use Rattle.chunk_seats.specs.Chunks.{chunk_of}
 use Rattle.list_parts.specs.declared.part.Part.{Part}
 use Rattle.list_parts.specs.Parts.{part_items, part_start, Follows, Fits, Chain}
@@ -62,3 +62,41 @@ module _ {X : Type 0} (size k : ℕ) (all rest : List X) (is : rest ≡ drop (k 
   last_chunk count more le =
       let long = length-drop (k * size) all in let t = more_times k count size more in
       is ∙ sym (take_all size (drop (k * size) all) (omega arith))
+
+-- that many of the first parts have so many values together
+abbrev pub total : {X : Type 0} → ℕ → List (Part X) → ℕ
+total k xs = length (flat_map part_items (take k xs))
+
+plus_plus : (p : Ptr) (a b : ℕ) → (p +ₚ a) +ₚ b ≡ p +ₚ (a + b)
+plus_plus (block_ptr b o) m n = ap (block_ptr b) (let e : o + m + n ≡ o + (m + n) = omega arith in e)
+plus_plus null_ptr m n = refl
+
+plus_none : (p : Ptr) (n : ℕ) → n ≡ 0 → p +ₚ n ≡ p
+plus_none (block_ptr b o) n e = ap (block_ptr b) (omega arith)
+plus_none null_ptr n e = refl
+
+pub chain_at : {X : Type 0} (s : ℕ) (p : Ptr) (xs : List (Part X)) (k : ℕ) (x : Part X) → Chain s p xs → slice_get xs k ≡ Some x → part_start x ≡ p +ₚ total k xs * s
+chain_at s p [] k x h e = absurd (none-some x e)
+chain_at s p (y ∷ ys) zero x h e = ap part_start (sym (some_is y x e)) ∙ h.0 ∙ sym (plus_none p (0 * s) (zero-mul s))
+chain_at s p (y ∷ ys) (suc k) x h e =
+    let n = length (part_items y) in let m = total k ys in let long : length (part_items y ++ flat_map part_items (take k ys)) ≡ n + m = length-append (part_items y) (flat_map part_items (take k ys)) in
+    chain_at s (p +ₚ n * s) ys k x h.1 e ∙ plus_plus p (n * s) (m * s) ∙ ap (λ j. p +ₚ j) (sym (ap (λ j. j * s) long ∙ add_times n m s))
+
+pub total_next : {X : Type 0} (xs : List (Part X)) (k : ℕ) (x : Part X) → slice_get xs k ≡ Some x → total (suc k) xs ≡ total k xs + length (part_items x)
+total_next [] k x e = absurd (none-some x e)
+total_next (y ∷ ys) zero x e = let long = length-append (part_items y) [] in let same = ap (λ z. length (part_items z)) (some_is y x e) in omega (arith, long, same)
+total_next (y ∷ ys) (suc k) x e =
+    let a = length-append (part_items y) (flat_map part_items (take (suc k) ys)) in let b = length-append (part_items y) (flat_map part_items (take k ys)) in let rec = total_next ys k x e in omega (arith, a, b, rec)
+
+pub total_most : {X : Type 0} (xs : List (Part X)) (k : ℕ) → total k xs ≤ length (flat_map part_items xs)
+total_most xs k =
+    let whole = ap (λ l. length (flat_map part_items l)) (take-append-drop k xs) in let cut = ap length (flat_map-append part_items (take k xs) (drop k xs)) in
+    let long = length-append (flat_map part_items (take k xs)) (flat_map part_items (drop k xs)) in omega (arith, whole, cut, long)
+
+pub total_all : {X : Type 0} (xs : List (Part X)) → total (length xs) xs ≡ length (flat_map part_items xs)
+total_all xs = ap (λ l. length (flat_map part_items l)) (take_all (length xs) xs (omega arith))
+
+pub get_below : {A : Type 0} (xs : List A) (k : ℕ) → k < length xs → (x : A) × (slice_get xs k ≡ Some x)
+get_below [] k h = absurd (omega arith)
+get_below (x ∷ xs) zero h = (x, refl)
+get_below (x ∷ xs) (suc k) h = get_below xs k (omega arith)

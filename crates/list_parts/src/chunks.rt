@@ -15,6 +15,7 @@ impl<T> Part<T> {
         requires count { (1 ≤ count) × ((count - 1) * size ≤ length (part_items self)) × (length (part_items self) ≤ count * size) }
         ensures count { length result.items ≡ count }
         ensures place { Chain (type_size T.row) (part_start self) result.items }
+        ensures whole { flat_map part_items result.items ≡ part_items self }
         ensures items { (c : ℕ) (part : Piece T) → slice_get result.items c ≡ Some part → part_items part ≡ chunk_of size (part_items self) c }
     {
         let mut parts = room;
