@@ -100,3 +100,7 @@ pub get_below : {A : Type 0} (xs : List A) (k : ℕ) → k < length xs → (x : 
 get_below [] k h = absurd (omega arith)
 get_below (x ∷ xs) zero h = (x, refl)
 get_below (x ∷ xs) (suc k) h = get_below xs k (omega arith)
+
+pub chain_first : {X : Type 0} (s : ℕ) (p : Ptr) (xs : List (Part X)) (x : Part X) → Chain s p xs → slice_get xs 0 ≡ Some x → part_start x ≡ p
+chain_first s p [] x h e = absurd (none-some x e)
+chain_first s p (y ∷ ys) x h e = ap part_start (sym (some_is y x e)) ∙ h.0

@@ -11,3 +11,7 @@ use Rattle.par_passes.specs.Passes.{Maps}
 pub record Serves {T U : Type 0} (post : T → U → Type 0) (size : ℕ) (items : List T) (parts : List (Part U)) (good : ℕ → Part U → Type 0) : Type 0 where
   pub wide : (c : ℕ) (part : Part U) → slice_get parts c ≡ Some part → length (chunk_of size items c) ≡ length (part_items part)
   pub fine : (c : ℕ) (part full : Part U) → slice_get parts c ≡ Some part → SamePlaces part full → Maps post (chunk_of size items c) (part_items full) → good c full
+
+-- a good part lies where the part that was dealt lay
+abbrev pub InPlace : {U : Type 0} → List (Part U) → (ℕ → Part U → Type 0) → Type 0
+InPlace {U} parts good = (c : ℕ) (old full : Part U) → slice_get parts c ≡ Some old → good c full → SamePlaces old full

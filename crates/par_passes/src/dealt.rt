@@ -1,12 +1,18 @@
 //! A list that workers fill in place: each fills the parts that it draws.
-ghost use Rattle.std.specs.Prelude.{◌≡◌, ℕ, ◌+◌, ◌<◌, ◌≤◌, All, None};
+ghost use Rattle.std.specs.Prelude.{◌≡◌, ℕ, ◌+◌, ◌<◌, ◌≤◌, List, All, None, length, flat_map};
+ghost use Rattle.std.specs.List.{range_with_len};
 ghost use Rattle.std.specs.Thread.{IsSync};
+ghost use denote.RawPtr.{Ptr};
+ghost use Rattle.std.specs.Mem.{type_size};
 ghost use Rattle.chunk_seats.specs.Claims.{fresh};
-ghost use Rattle.par_passes.specs.Dealt.{Serves};
+ghost use Rattle.deal_board.specs.Returned.{returned};
+ghost use Rattle.list_parts.specs.Parts.{part_items, part_start, Chain, Fits};
+ghost use Rattle.list_parts.specs.declared.part.Part.{Part as Piece};
+ghost use Rattle.par_passes.specs.Dealt.{Serves, InPlace};
 
 use crate::chunk::chunk_slice;
 use chunk_seats::Gate;
-use deal_board::{DealBoard, Goods, Seat};
+use deal_board::{DealBoard, Goods, Returned, Seat};
 use list_parts::Part;
 use std::thread::{Threads, join};
 
@@ -85,4 +91,24 @@ fn fill_all<
     );
     board.join(&mut one, two);
     one
+}
+
+// The parts that came back, as one.
+fn glue_back<U: Copy, N: Goods<Part<U>>>(parts: Returned<Part<U>, N>) -> Part<U>
+    requires all { (parts ≡ returned 0 (length N.items)) × (0 < length N.items) }
+    requires place { (start : Ptr) × Chain (type_size U.row) start N.items }
+    requires size { Fits (type_size U.row) (length (flat_map part_items N.items)) }
+    requires in_place { InPlace N.items N.good }
+    ensures place { (start : Ptr) → Chain (type_size U.row) start N.items → part_start result ≡ start }
+    ensures wide { length (part_items result) ≡ length (flat_map part_items N.items) }
+    ensures values { (filled : ℕ → List U) → ((c : ℕ) (part : Piece U) → c < length N.items → N.good c part → part_items part ≡ filled c) → part_items result ≡ flat_map filled (range_with_len 0 (length N.items)) }
+{
+    let mut left = parts;
+    let Some(mut whole) = left.take_next() else {
+        unreachable!();
+    };
+    while let Some(part) = left.take_next() {
+        whole = whole.glue(part);
+    }
+    whole
 }
