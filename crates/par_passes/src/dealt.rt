@@ -1,19 +1,23 @@
 //! A list that workers fill in place: each fills the parts that it draws.
-ghost use Rattle.std.specs.Prelude.{◌≡◌, ℕ, ◌+◌, ◌<◌, ◌≤◌, List, All, None, length, flat_map};
-ghost use Rattle.std.specs.List.{range_with_len};
+ghost use Rattle.std.specs.Prelude.{◌≡◌, ℕ, ◌+◌, ◌<◌, ◌≤◌, ◌^◌, [], All, Some, None, length, flat_map, slice_get, vec_capacity, IfOk, IfErr};
 ghost use Rattle.std.specs.Thread.{IsSync};
 ghost use denote.RawPtr.{Ptr};
 ghost use Rattle.std.specs.Mem.{type_size};
+ghost use Rattle.chunk_seats.specs.Chunks.{chunk_of, chunk_count};
 ghost use Rattle.chunk_seats.specs.Claims.{fresh};
 ghost use Rattle.deal_board.specs.Returned.{returned};
-ghost use Rattle.list_parts.specs.Parts.{part_items, part_start, Chain, Fits};
+ghost use Rattle.list_parts.specs.Parts.{part_items, part_start, Chain, Fits, SamePlaces};
 ghost use Rattle.list_parts.specs.declared.part.Part.{Part as Piece};
-ghost use Rattle.par_passes.specs.Dealt.{Serves, InPlace};
+ghost use Rattle.par_passes.specs.Dealt.{Serves, InPlace, IsWhole};
+ghost use Rattle.par_passes.specs.Passes.{Maps};
 
-use crate::chunk::chunk_slice;
-use chunk_seats::Gate;
+use crate::chunk::{chunk_slice, count_chunks};
+use crate::fill::blank_list;
+use chunk_seats::{Gate, Plan};
 use deal_board::{DealBoard, Goods, Returned, Seat};
-use list_parts::Part;
+use list_parts::{Part, with_part};
+use std::alloc::{AllocError, Global};
+use std::marker::Brand;
 use std::thread::{Threads, join};
 
 // All that one worker does: it fills the parts that it draws, until none is left.
@@ -99,9 +103,7 @@ fn glue_back<U: Copy, N: Goods<Part<U>>>(parts: Returned<Part<U>, N>) -> Part<U>
     requires place { (start : Ptr) × Chain (type_size U.row) start N.items }
     requires size { Fits (type_size U.row) (length (flat_map part_items N.items)) }
     requires in_place { InPlace N.items N.good }
-    ensures place { (start : Ptr) → Chain (type_size U.row) start N.items → part_start result ≡ start }
-    ensures wide { length (part_items result) ≡ length (flat_map part_items N.items) }
-    ensures values { (filled : ℕ → List U) → ((c : ℕ) (part : Piece U) → c < length N.items → N.good c part → part_items part ≡ filled c) → part_items result ≡ flat_map filled (range_with_len 0 (length N.items)) }
+    ensures { IsWhole (type_size U.row) N.items N.good result }
 {
     let mut left = parts;
     let Some(mut whole) = left.take_next() else {
@@ -111,4 +113,138 @@ fn glue_back<U: Copy, N: Goods<Part<U>>>(parts: Returned<Part<U>, N>) -> Part<U>
         whole = whole.glue(part);
     }
     whole
+}
+
+// The parts, dealt to so many workers, filled and glued. Where there is no memory for the board, they come back.
+fn fill_parts<
+    T: Copy + Sync,
+    U: Copy + Send + Sync,
+    F: Fn(T) -> U + Sync,
+    N: Goods<Part<U>> + Send + Sync,
+    G: Gate,
+    R: Threads + Sync,
+>(
+    rt: &R,
+    alloc: Global,
+    workers: u32,
+    gate: &G,
+    items: &[T],
+    size: u32,
+    f: &F,
+    parts: Vec<Part<U>>,
+) -> Result<Part<U>, Vec<Part<U>>>
+    requires named { parts.items ≡ N.items }
+    requires few { (0 < length N.items) × (length N.items < 2 ^ 62) }
+    requires workers { (1 ≤ workers) × (workers ≤ 64) }
+    requires callable { All (F.pre f.now) items.now }
+    requires serves { Serves (F.post f.now) size items.now N.items N.good }
+    requires in_place { InPlace N.items N.good }
+    requires place { (start : Ptr) × Chain (type_size U.row) start N.items }
+    requires size { Fits (type_size U.row) (length (flat_map part_items N.items)) }
+    ensures whole { IfOk result (λ p. IsWhole (type_size U.row) N.items N.good p) }
+    ensures back { IfErr result (λ v. v.items ≡ parts.items) }
+{
+    match DealBoard::<Part<U>, N>::new(alloc, parts, workers) {
+        Ok((board, mine)) => {
+            let mine = fill_all(rt, &board, mine, gate, 0, workers, items, size, f);
+            Ok(glue_back(board.close(mine)))
+        }
+        Err(parts) => Err(parts),
+    }
+}
+
+// The same, where each part has a place for each item of its chunk.
+fn deal_parts<
+    T: Copy + Sync,
+    U: Copy + Send + Sync,
+    F: Fn(T) -> U + Sync,
+    G: Gate,
+    R: Threads + Sync,
+>(
+    rt: &R,
+    alloc: Global,
+    workers: u32,
+    gate: &G,
+    items: &[T],
+    size: u32,
+    f: &F,
+    parts: Vec<Part<U>>,
+) -> Result<Part<U>, Vec<Part<U>>>
+    requires few { (0 < length parts.items) × (length parts.items < 2 ^ 62) }
+    requires workers { (1 ≤ workers) × (workers ≤ 64) }
+    requires callable { All (F.pre f.now) items.now }
+    requires chunks { (0 < size) × (length parts.items ≡ chunk_count size (length items.now)) }
+    requires wide { (c : ℕ) (part : Piece U) → slice_get parts.items c ≡ Some part → length (chunk_of size items.now c) ≡ length (part_items part) }
+    requires place { (start : Ptr) × Chain (type_size U.row) start parts.items }
+    requires size { Fits (type_size U.row) (length (flat_map part_items parts.items)) }
+    ensures place { IfOk result (λ p. (start : Ptr) → Chain (type_size U.row) start parts.items → part_start p ≡ start) }
+    ensures wide { IfOk result (λ p. length (part_items p) ≡ length (flat_map part_items parts.items)) }
+    ensures values { IfOk result (λ p. Maps (F.post f.now) items.now (part_items p)) }
+    ensures back { IfErr result (λ v. v.items ≡ parts.items) }
+{
+    fill_parts::<T, U, F, Brand, G, R>(rt, alloc, workers, gate, items, size, f, parts)
+}
+
+// The part filled with what the function gives for each item. Where there is no memory for the board, its values are unknown.
+fn fill_whole<
+    T: Copy + Sync,
+    U: Copy + Send + Sync,
+    F: Fn(T) -> U + Sync,
+    G: Gate,
+    R: Threads + Sync,
+>(
+    rt: &R,
+    alloc: Global,
+    plan: &Plan,
+    gate: &G,
+    items: &[T],
+    f: &F,
+    whole: Part<U>,
+    room: Vec<Part<U>>,
+) -> (Part<U>, Result<(), AllocError>)
+    requires some { (0 < length items.now) × (length items.now < 2 ^ 62) }
+    requires callable { All (F.pre f.now) items.now }
+    requires wide { (length (part_items whole) ≡ length items.now) × Fits (type_size U.row) (length items.now) }
+    requires room { (room.items ≡ []) × (chunk_count plan.now.chunk (length items.now) ≤ vec_capacity room) }
+    ensures place { SamePlaces whole result.0 }
+    ensures values { IfOk result.1 (λ _. Maps (F.post f.now) items.now (part_items result.0)) }
+{
+    let size = plan.chunk;
+    let count = count_chunks(items.len(), size);
+    let workers = (plan.workers as usize).min(count) as u32;
+    let parts = whole.cut_all(size as usize, count, room);
+    match deal_parts(rt, alloc, workers, gate, items, size, f, parts) {
+        Ok(filled) => (filled, Ok(())),
+        Err(parts) => (Part::glue_all(parts), Err(AllocError)),
+    }
+}
+
+/// What the function gives for each item, for every plan and gate. The list is filled in place, each chunk by the worker that draws it.
+pub(crate) fn map_in_place<
+    T: Copy + Sync,
+    U: Copy + Send + Sync,
+    F: Fn(T) -> U + Sync,
+    G: Gate,
+    R: Threads + Sync,
+>(
+    rt: &R,
+    alloc: Global,
+    plan: &Plan,
+    gate: &G,
+    items: &[T],
+    f: &F,
+) -> Result<Vec<U>, AllocError>
+    requires some { (0 < length items.now) × (length items.now < 2 ^ 62) }
+    requires callable { All (F.pre f.now) items.now }
+    ensures { IfOk result (λ v. Maps (F.post f.now) items.now v.items) }
+{
+    let room = Vec::with_capacity(alloc, count_chunks(items.len(), plan.chunk))?;
+    let mut out = blank_list(alloc, f(items[0]), items.len())?;
+    let fill = |whole: Part<U>, room: Vec<Part<U>>| -> (Part<U>, Result<(), AllocError>)
+        requires { (0 < length items.now) × (length items.now < 2 ^ 62) × All (F.pre f.now) items.now × (length (part_items whole) ≡ length items.now) × Fits (type_size U.row) (length items.now) × (room.items ≡ []) × (chunk_count plan.now.chunk (length items.now) ≤ vec_capacity room) }
+        ensures place { SamePlaces whole result.0 }
+        ensures values { IfOk result.1 (λ _. Maps (F.post f.entry.now) items.entry.now (part_items result.0)) }
+    { fill_whole(rt, alloc, plan, gate, items, f, whole, room) };
+    with_part(out.as_mut_slice(), room, fill)?;
+    Ok(out)
 }
