@@ -28,6 +28,8 @@ impl<T, N: Goods<T>> DealBoard<T, N> {
         ensures item { seat.old.hand ≡ Some (c, result) }
         ensures left { seat.new ≡ holding seat.old c item }
     {
-        self.table.shared.exchange(&mut seat.token, c as usize, item)
+        self.table
+            .shared
+            .exchange(&mut seat.token, c as usize, item)
     }
 }

@@ -1,14 +1,13 @@
 -- Parts that come back are glued in order.
-use Rattle.std.proofs.Common.{◌≡◌, ℕ, suc, ◌+◌, ◌*◌, ◌<◌, ◌≤◌, List, ◌++◌, length, flat_map, Some, slice_get, refl, sym, ap, ◌∙◌, arith, length-append, add-one}
+use Rattle.std.proofs.Common.{◌≡◌, ℕ, suc, ◌+◌, ◌*◌, ◌<◌, ◌≤◌, List, ◌++◌, length, flat_map, sym, ap, ◌∙◌, arith, length-append, add-one}
 use Rattle.std.specs.List.{range_with_len}
 use Rattle.std.proofs.lemmas.List.{append-nil}
-use Rattle.std.proofs.lemmas.Grind.{flat_map-append}
 use denote.RawPtr.{Ptr, ◌+ₚ◌}
 use Rattle.list_parts.specs.declared.part.Part.{Part}
-use Rattle.list_parts.specs.Parts.{part_items, part_start, SamePlaces, Follows, Chain}
+use Rattle.list_parts.specs.Parts.{part_items, part_start, Follows, Chain}
 use Rattle.par_passes.specs.Dealt.{InPlace}
 use Rattle.scan_lookback.proofs.Lists.{flat_map_more}
-use Rattle.list_parts.proofs.Chains.{total, chain_at, chain_first, total_next, total_most, total_all, get_below}
+use Rattle.list_parts.proofs.Chains.{total, chain_at, chain_first, total_next, total_most, get_below}
 
 -- where each part that came back lies where the part that was dealt lay
 module _ {U : Type 0} (s : ℕ) (parts : List (Part U)) (good : ℕ → Part U → Type 0) where

@@ -41,7 +41,8 @@ fn fill_drawn<T: Copy, U: Copy, F: Fn(T) -> U, N: Goods<Part<U>>, G: Gate>(
 {
     while let Some(c) = board.deal(mine) {
         gate.after_claim(worker, Some(c));
-        mine.item_mut(board, c).map_in(chunk_slice(items, size, c), f);
+        mine.item_mut(board, c)
+            .map_in(chunk_slice(items, size, c), f);
     }
     gate.after_claim(worker, None);
 }
@@ -226,14 +227,7 @@ pub(crate) fn map_in_place<
     F: Fn(T) -> U + Sync,
     G: Gate,
     R: Threads + Sync,
->(
-    rt: &R,
-    alloc: Global,
-    plan: &Plan,
-    gate: &G,
-    items: &[T],
-    f: &F,
-) -> Result<Vec<U>, AllocError>
+>(rt: &R, alloc: Global, plan: &Plan, gate: &G, items: &[T], f: &F) -> Result<Vec<U>, AllocError>
     requires some { (0 < length items.now) × (length items.now < 2 ^ 62) }
     requires callable { All (F.pre f.now) items.now }
     ensures { IfOk result (λ v. Maps (F.post f.now) items.now v.items) }

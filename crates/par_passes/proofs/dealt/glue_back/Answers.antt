@@ -1,4 +1,4 @@
-use Rattle.std.proofs.Common.{ℕ, ◌+◌, ◌<◌, length, sym, ap, subst, ◌∙◌, arith}
+use Rattle.std.proofs.Common.{ℕ, ◌+◌, sym, ap, subst, ◌∙◌, arith}
 use Rattle.std.specs.Mem.{type_size}
 use Rattle.deal_board.specs.Returned.{Returned}
 use Rattle.list_parts.proofs.Chains.{fits_less}
