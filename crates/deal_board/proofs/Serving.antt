@@ -175,9 +175,9 @@ module _ {T : Type 0} where
         back = λ k h. dite (ℕ_discrete k c)
             (λ e. (y, ap (get_elem? (set s.homes c (some y))) e ∙ set_here s.homes c (some y) here, subst (λ (m : ℕ). good m y) (sym e) fine))
             (λ ne. let part' = total_part (λ (u : ClaimView). times k u.done) s.views id v at in
-                let same' : times k v.claimed ≡ times k v.done + one k c = ap (times k) carried ∙ times_snoc k v.done c in let other = one_other k c (λ q. ne (sym q)) in
-                let old = r.back k (⊎_elim (λ (p : 0 < total (λ (u : ClaimView). times k u.done) s.views). p) (λ (p : 0 < times k v.claimed). omega arith) h) in
-                (old.0, set_else s.homes c k (some y) ne ∙ old.1, old.2));
+            let same' : times k v.claimed ≡ times k v.done + one k c = ap (times k) carried ∙ times_snoc k v.done c in let other = one_other k c (λ q. ne (sym q)) in
+            let old = r.back k (⊎_elim (λ (p : 0 < total (λ (u : ClaimView). times k u.done) s.views). p) (λ (p : 0 < times k v.claimed). omega arith) h) in
+            (old.0, set_else s.homes c k (some y) ne ∙ old.1, old.2));
       }
   gives_back items good d s r id v at (x ∷ y ∷ cs) carried fine = absurd carried
 

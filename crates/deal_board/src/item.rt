@@ -29,6 +29,8 @@ impl<T, N: Goods<T>> DealBoard<T, N> {
         ensures left { seat.new.hand ≡ Some (c, item) }
         ensures seat { seat.new ≡ holding seat.old c item }
     {
-        self.table.shared.exchange(&mut seat.token, c as usize, item)
+        self.table
+            .shared
+            .exchange(&mut seat.token, c as usize, item)
     }
 }
