@@ -26,7 +26,8 @@ impl<T, N: Goods<T>> DealBoard<T, N> {
         requires board { seat.old.board ≡ self.now.board }
         requires hand { (x : T) × (seat.old.hand ≡ Some (c, x)) }
         ensures item { seat.old.hand ≡ Some (c, result) }
-        ensures left { seat.new ≡ holding seat.old c item }
+        ensures left { seat.new.hand ≡ Some (c, item) }
+        ensures seat { seat.new ≡ holding seat.old c item }
     {
         self.table
             .shared
