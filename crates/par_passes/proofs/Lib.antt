@@ -4,3 +4,4 @@ pub mod Working
 pub mod Lowest
 pub mod Calling
 pub mod Filling
+pub mod Gluing

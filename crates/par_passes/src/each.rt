@@ -1,10 +1,9 @@
 //! A function of each item.
-ghost use Rattle.std.specs.Prelude.{◌≡◌, ℕ, ◌+◌, ◌-◌, ◌*◌, ◌<◌, ◌^◌, ◌++◌, min, List, length, All, map, IfOk};
-ghost use Rattle.chunk_seats.specs.Chunks.{chunk_of};
+ghost use Rattle.std.specs.Prelude.{◌≡◌, ◌+◌, ◌<◌, ◌^◌, ◌++◌, length, All, map, IfOk};
 ghost use Rattle.par_passes.specs.Passes.{Maps};
 
 use crate::chunk::{chunk_slice, count_chunks};
-use crate::crew::by_whole_chunks;
+use crate::dealt::map_in_place;
 use chunk_seats::{Gate, Plan};
 use scan_lookback::Lift;
 use std::alloc::{AllocError, Global};
@@ -24,36 +23,6 @@ fn map_onto<T: Copy, U: Copy, F: Fn(T) -> U>(
         out.push(f(*x))?;
     }
     Ok(())
-}
-
-// What the function gives for each item.
-fn map_slice<T: Copy, U: Copy, F: Fn(T) -> U>(
-    alloc: Global,
-    part: &[T],
-    f: &F,
-) -> Result<Vec<U>, AllocError>
-    requires callable { All (F.pre f.now) part.now }
-    ensures values { IfOk result (λ v. Maps (F.post f.now) part.now v.items) }
-    ensures whole { IfOk result (λ v. length v.items ≡ length part.now) }
-{
-    let mut out = Vec::with_capacity(alloc, part.len())?;
-    map_onto(part, f, &mut out)?;
-    Ok(out)
-}
-
-// The same for a chunk of the items.
-fn map_chunk<T: Copy, U: Copy, F: Fn(T) -> U>(
-    alloc: Global,
-    items: &[T],
-    size: u32,
-    f: &F,
-    c: u64,
-) -> Result<Vec<U>, AllocError>
-    requires callable { All (F.pre f.now) items.now }
-    ensures values { IfOk result (λ v. Maps (F.post f.now) (chunk_of size items.now c) v.items) }
-    ensures whole { IfOk result (λ v. length v.items ≡ min size (length items.now - c * size)) }
-{
-    map_slice(alloc, chunk_slice(items, size, c), f)
 }
 
 // All that one worker does alone: the chunks in turn, each right behind the one before it.
@@ -97,12 +66,7 @@ pub fn map<T: Copy + Sync, U: Copy + Send + Sync, F: Fn(T) -> U + Sync, G: Gate,
     if plan.workers == 1 || len <= size as usize {
         return map_in_turn(alloc, plan, gate, items, f);
     }
-    let make = |c: u64| -> Result<Vec<U>, AllocError>
-        requires { All (F.pre f.now) items.now }
-        ensures values { IfOk result (λ v. Maps (F.post f.entry.now) (chunk_of size items.entry.now c) v.items) }
-        ensures whole { IfOk result (λ v. length v.items ≡ min size (length items.entry.now - c * size)) }
-    { map_chunk(alloc, items, size, f, c) };
-    by_whole_chunks(rt, alloc, plan, gate, f(items[0]), len, &make)
+    map_in_place(rt, alloc, plan, gate, items, f)
 }
 
 /// The same for a function that contracts can name.

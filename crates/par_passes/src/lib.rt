@@ -4,6 +4,7 @@
 
 mod chunk;
 mod crew;
+mod dealt;
 mod each;
 mod fewest;
 mod fill;

@@ -1,0 +1,36 @@
+//! The item in a seat's hand.
+ghost use Rattle.std.specs.Prelude.{◌≡◌, Some};
+ghost use Rattle.std.specs.Borrow.{Lends, sem};
+ghost use Rattle.deal_board.specs.Held.{holding};
+ghost use Rattle.deal_board.specs.contracts.board.Seat.{the_row};
+
+use crate::board::{DealBoard, Seat};
+use crate::goods::Goods;
+
+impl<T> Seat<T> {
+    /// The item in the seat's hand, which was drawn as number `c`. When the borrow ends, the seat has what was written through it.
+    pub fn item_mut<'a, N: Goods<T>>(&'a mut self, board: &'a DealBoard<T, N>, c: u64) -> &'a mut T
+        requires board { self.old.board ≡ board.now.board }
+        requires hand { (x : T) × (self.old.hand ≡ Some (c, x)) }
+        ensures* writes_back { sem 𝓛 (Lends (the_row T.row) T.row self.entry result (holding self.old c)) }
+        ensures value { self.old.hand ≡ Some (c, result.now) }
+    {
+        let token = &mut self.token;
+        token.slot_mut(&board.table.shared, c as usize)
+    }
+}
+
+impl<T, N: Goods<T>> DealBoard<T, N> {
+    /// The item in the seat's hand, which was drawn as number `c`, with `item` left in its place.
+    pub fn replace(&self, seat: &mut Seat<T>, c: u64, item: T) -> T
+        requires board { seat.old.board ≡ self.now.board }
+        requires hand { (x : T) × (seat.old.hand ≡ Some (c, x)) }
+        ensures item { seat.old.hand ≡ Some (c, result) }
+        ensures left { seat.new.hand ≡ Some (c, item) }
+        ensures seat { seat.new ≡ holding seat.old c item }
+    {
+        self.table
+            .shared
+            .exchange(&mut seat.token, c as usize, item)
+    }
+}

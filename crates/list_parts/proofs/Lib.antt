@@ -1,0 +1,4 @@
+pub mod Holding
+pub mod Cutting
+pub mod Sending
+pub mod Chains

@@ -1,0 +1,5 @@
+use Rattle.par_passes.specs.Dealt.{IsFilled}
+use Rattle.par_passes.proofs.dealt.deal_parts.Given as goal
+
+abbrev pub ghosts-fill_parts : goal.ghosts-fill_parts
+ghosts-fill_parts g a = record { items = a.parts.items; good = IsFilled (λ x r. g.F.Fn.post a.f.now (x, tt) r) a.size a.items.now a.parts.items }
