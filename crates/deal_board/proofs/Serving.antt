@@ -1,12 +1,12 @@
 -- Each step of a board keeps its rule.
-use Rattle.std.proofs.Common.{◌≡◌, ◌≢◌, ◌⊎◌, ℕ, zero, suc, ◌+◌, ◌-◌, ◌%◌, ◌<◌, ◌≤◌, ◌^◌, min, List, [], ◌∷◌, ◌++◌, length, get_or, set, Bool, true, false, Some, None, slice_get, slice_index_or, IfSome, refl, sym, ap, ◌∙◌, subst, ⊎_elim, arith, inl, inr, length-append, length-set, lt_of_not-le}
+use Rattle.std.proofs.Common.{◌≡◌, ◌⊎◌, ℕ, zero, suc, ◌+◌, ◌%◌, ◌<◌, ◌≤◌, ◌^◌, min, List, [], ◌∷◌, ◌++◌, length, get_or, set, Bool, true, false, Some, None, slice_get, slice_index_or, IfSome, refl, sym, ap, ◌∙◌, subst, ⊎_elim, arith, inl, inr, length-append, length-set, lt_of_not-le}
 use Rattle.std.proofs.lemmas.List.{length-map}
 use Rattle.std.proofs.lemmas.Option.{none-some}
 use mathlib.Core.Logic.{dite}
 use mathlib.Core.Option.{Option, none, some, some-injective, some-ne-none}
 use native.Mathlib.Decide.{dec_le, ℕ_discrete}
 use lib.ListN.{get_elem?}
-use Rattle.atomic_table.specs.Table.{State, Me, step, keeps, takes, gives, chain, put_back, rest, opening, Allows, Splits, Joins, Seen, Final}
+use Rattle.atomic_table.specs.Table.{State, Me, step, takes, gives, chain, put_back, rest, opening, Allows, Splits, Joins, Seen, Final}
 use Rattle.atomic_table.proofs.Lists.{set_here, set_else, at_map}
 use Rattle.chunk_seats.specs.declared.views.ClaimView.{ClaimView}
 use Rattle.chunk_seats.specs.declared.views.Deal.{Deal}
@@ -14,7 +14,7 @@ use Rattle.chunk_seats.specs.Tallies.{total, one, times, OnceBelow, Every}
 use Rattle.chunk_seats.specs.Claims.{fresh, claiming, spending, giving, joining}
 use Rattle.chunk_seats.specs.Dealing.{Fits, Dealt}
 use Rattle.chunk_seats.proofs.Dealing.{cuts, joins}
-use Rattle.chunk_seats.proofs.Totals.{total_set, total_snoc, total_part, total_alone, total_le, every_set, one_same, one_other, times-append, times_snoc, at_get}
+use Rattle.chunk_seats.proofs.Totals.{total_set, total_snoc, total_part, total_alone, total_le, every_set, one_same, one_other, times-append, times_snoc}
 use Rattle.deal_board.specs.Held.{settled, in_hand}
 use Rattle.deal_board.specs.Returned.{AreLeft}
 use Rattle.deal_board.specs.Rule.{claim_board, Served, Carries, Deals}

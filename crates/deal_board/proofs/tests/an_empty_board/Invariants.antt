@@ -1,4 +1,4 @@
-use Rattle.std.proofs.Common.{◌≡◌, ◌*◌, [], ◌∷◌, replicate}
+use Rattle.std.proofs.Common.{[]}
 use Rattle.deal_board.proofs.tests.an_empty_board.Given as goal
 
 abbrev pub ghosts-none : goal.ghosts-none

@@ -1,4 +1,4 @@
-use Rattle.std.proofs.Common.{◌≡◌, ◌*◌, [], ◌∷◌, replicate}
+use Rattle.std.proofs.Common.{[], ◌∷◌}
 use Rattle.deal_board.proofs.tests.one_item_is_replaced.Given as goal
 
 abbrev pub ghosts-swaps : goal.ghosts-swaps

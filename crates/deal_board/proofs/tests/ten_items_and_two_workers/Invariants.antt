@@ -1,4 +1,4 @@
-use Rattle.std.proofs.Common.{◌≡◌, ◌*◌, [], ◌∷◌, replicate}
+use Rattle.std.proofs.Common.{◌≡◌, ◌*◌, replicate}
 use Rattle.deal_board.proofs.tests.ten_items_and_two_workers.Given as goal
 
 abbrev pub ghosts-deals : goal.ghosts-deals
