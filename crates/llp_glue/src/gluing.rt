@@ -13,6 +13,7 @@ use crate::unmet::{NO_KEY, least_failing};
 use chunk_seats::{Gate, Plan};
 use grammar_file::Symbol;
 use llp_tables::Tables;
+use par_passes::Workers;
 use std::alloc::{AllocError, Global};
 use std::thread::Threads;
 
@@ -39,7 +40,15 @@ fn failing_pair<G: Gate, R: Threads + Sync>(
     requires few { sum counts.now < 2 ^ 61 }
     ensures { IfOk result (λ m. m ≡ failing_key tables.now start.now sources.now) }
 {
-    let parts = parts_of(rt, alloc, plan, gate, counts)?;
+    let parts = parts_of(
+        &Workers {
+            runtime: rt,
+            alloc,
+            plan: *plan,
+            gate,
+        },
+        counts,
+    )?;
     let parts = parts.as_slice();
     let brackets = all_brackets(rt, alloc, plan, gate, tables, start, sources, counts, parts)?;
     least_failing(

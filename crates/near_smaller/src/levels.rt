@@ -2,10 +2,8 @@
 ghost use Rattle.std.specs.Prelude.{◌≡◌, ◌<◌, ◌^◌, length, IfOk};
 ghost use Rattle.near_smaller.specs.Levels.{HalvedTo, AreLevels, lists_of, level_at};
 
-use chunk_seats::{Gate, Plan};
-use par_passes::{Lift, map_lifted};
-use std::alloc::{AllocError, Global};
-use std::thread::Threads;
+use par_passes::{Lift, Passes};
+use std::alloc::AllocError;
 
 // So many levels are enough for a list in memory.
 const MOST_LEVELS: usize = 61;
@@ -25,37 +23,25 @@ impl Lift<[i64; 2], i64> for Lesser {
 }
 
 // The lesser of each two neighbours, and a last value that has no neighbour as it is.
-fn halve<G: Gate, R: Threads + Sync>(
-    rt: &R,
-    alloc: Global,
-    plan: &Plan,
-    gate: &G,
-    level: &[i64],
-) -> Result<Vec<i64>, AllocError>
+fn halve(crew: &impl Passes, level: &[i64]) -> Result<Vec<i64>, AllocError>
     ensures { IfOk result (λ v. HalvedTo level.now v.items) }
 {
     let (pairs, last) = level.as_chunks::<2>();
-    let mut upper = map_lifted(rt, alloc, plan, gate, pairs, &Lesser)?;
+    let mut upper = crew.map_lifted(pairs, &Lesser)?;
     upper.reserve_exact(last.len())?;
     upper.extend_from_slice(last)?;
     Ok(upper)
 }
 
 /// The values and the minima of their blocks, from two places on up to all.
-pub(crate) fn all_levels<G: Gate, R: Threads + Sync>(
-    rt: &R,
-    alloc: Global,
-    plan: &Plan,
-    gate: &G,
-    values: &[i64],
-) -> Result<Vec<Vec<i64>>, AllocError>
+pub(crate) fn all_levels(crew: &impl Passes, values: &[i64]) -> Result<Vec<Vec<i64>>, AllocError>
     ensures levels { IfOk result (λ v. AreLevels (lists_of v.items)) }
     ensures lowest { IfOk result (λ v. level_at (lists_of v.items) 0 ≡ values.now) }
 {
-    let mut levels = Vec::with_capacity(alloc, MOST_LEVELS)?;
-    let mut level = Vec::from_slice(alloc, values)?;
+    let mut levels = Vec::with_capacity(crew.alloc(), MOST_LEVELS)?;
+    let mut level = Vec::from_slice(crew.alloc(), values)?;
     while level.len() > 1 {
-        let upper = halve(rt, alloc, plan, gate, &level)?;
+        let upper = halve(crew, &level)?;
         levels.push(level)?;
         level = upper;
     }

@@ -6,6 +6,7 @@ use crate::before::{height_before, place_before};
 use crate::behind::{height_behind, place_behind};
 use crate::levels::all_levels;
 use chunk_seats::{Gate, Plan};
+use par_passes::{Passes, Workers};
 use std::alloc::{AllocError, Global};
 use std::marker::Model;
 use std::thread::Threads;
@@ -31,6 +32,14 @@ impl Model for Minima {
 impl Minima {
     /// The values, with the minima of all their blocks: twice as many words as there are values. It is the same for every plan and
     /// gate. The only refusal is that memory is out.
+    pub fn of(crew: &impl Passes, values: &[i64]) -> Result<Minima, AllocError>
+        ensures { IfOk result (λ m. m ≡ values.now) }
+    {
+        let levels = all_levels(crew, values)?;
+        Ok(Minima { levels })
+    }
+
+    /// The same by a crew of these.
     pub fn build<G: Gate, R: Threads + Sync>(
         rt: &R,
         alloc: Global,
@@ -40,8 +49,13 @@ impl Minima {
     ) -> Result<Minima, AllocError>
         ensures { IfOk result (λ m. m ≡ values.now) }
     {
-        let levels = all_levels(rt, alloc, plan, gate, values)?;
-        Ok(Minima { levels })
+        let crew = Workers {
+            runtime: rt,
+            alloc,
+            plan: *plan,
+            gate,
+        };
+        Minima::of(&crew, values)
     }
 
     /// The greatest place before i whose value is at most x, `None` exactly where there is none. It takes no memory, and

@@ -6,11 +6,9 @@ ghost use Rattle.par_lexer.specs.PieceRows.{is_token as is_kept, kind_of as term
 use crate::meanings::Meaning;
 use crate::pieces::Pieces;
 use ast_rows::Tokens;
-use chunk_seats::{Gate, Plan};
-use par_passes::{map, positions};
+use par_passes::Passes;
 use source_meaning::Terminal;
-use std::alloc::{AllocError, Global};
-use std::thread::Threads;
+use std::alloc::AllocError;
 
 // Whether a piece is a token.
 fn is_token(meaning: Meaning) -> bool
@@ -33,35 +31,15 @@ fn kind(meaning: Meaning) -> Terminal
 }
 
 // The numbers of the pieces that are tokens.
-fn kept<G: Gate, R: Threads + Sync>(
-    rt: &R,
-    alloc: Global,
-    plan: &Plan,
-    gate: &G,
-    meanings: &[Meaning],
-) -> Result<Vec<u32>, AllocError>
+fn kept(crew: &impl Passes, meanings: &[Meaning]) -> Result<Vec<u32>, AllocError>
     requires len { length meanings.now ≤ 2 ^ 32 }
     ensures { IfOk result (λ v. v.items ≡ places_where is_kept meanings.now) }
 {
-    positions(
-        rt,
-        alloc,
-        plan,
-        gate,
-        meanings,
-        &|meaning: Meaning| is_token(meaning),
-    )
+    crew.positions(meanings, &|meaning: Meaning| is_token(meaning))
 }
 
 // The terminals of the pieces with these numbers.
-fn kinds<G: Gate, R: Threads + Sync>(
-    rt: &R,
-    alloc: Global,
-    plan: &Plan,
-    gate: &G,
-    pieces: &Pieces,
-    numbers: &[u32],
-) -> Result<Vec<Terminal>, AllocError>
+fn kinds(crew: &impl Passes, pieces: &Pieces, numbers: &[u32]) -> Result<Vec<Terminal>, AllocError>
     requires len { length numbers.now < 2 ^ 62 }
     requires inside { All (λ k. k < length pieces.now) numbers.now }
     ensures { IfOk result (λ v. v.items ≡ map (λ k. terminal_of_piece (row_at pieces.now k).meaning) numbers.now) }
@@ -70,18 +48,11 @@ fn kinds<G: Gate, R: Threads + Sync>(
         requires { k < length pieces.now }
         ensures { result ≡ terminal_of_piece (row_at pieces.entry.now k).meaning }
     { kind(pieces.piece(k).meaning) };
-    map(rt, alloc, plan, gate, numbers, &of_number)
+    crew.map(numbers, &of_number)
 }
 
 // The places of the pieces with these numbers.
-fn starts<G: Gate, R: Threads + Sync>(
-    rt: &R,
-    alloc: Global,
-    plan: &Plan,
-    gate: &G,
-    pieces: &Pieces,
-    numbers: &[u32],
-) -> Result<Vec<u32>, AllocError>
+fn starts(crew: &impl Passes, pieces: &Pieces, numbers: &[u32]) -> Result<Vec<u32>, AllocError>
     requires len { length numbers.now < 2 ^ 62 }
     requires inside { All (λ k. k < length pieces.now) numbers.now }
     ensures { IfOk result (λ v. v.items ≡ map (λ k. (row_at pieces.now k).start) numbers.now) }
@@ -90,18 +61,11 @@ fn starts<G: Gate, R: Threads + Sync>(
         requires { k < length pieces.now }
         ensures { result ≡ (row_at pieces.entry.now k).start }
     { pieces.piece(k).start };
-    map(rt, alloc, plan, gate, numbers, &of_number)
+    crew.map(numbers, &of_number)
 }
 
 // The lengths of the pieces with these numbers.
-fn lengths<G: Gate, R: Threads + Sync>(
-    rt: &R,
-    alloc: Global,
-    plan: &Plan,
-    gate: &G,
-    pieces: &Pieces,
-    numbers: &[u32],
-) -> Result<Vec<u32>, AllocError>
+fn lengths(crew: &impl Passes, pieces: &Pieces, numbers: &[u32]) -> Result<Vec<u32>, AllocError>
     requires len { length numbers.now < 2 ^ 62 }
     requires inside { All (λ k. k < length pieces.now) numbers.now }
     ensures { IfOk result (λ v. v.items ≡ map (λ k. (row_at pieces.now k).length) numbers.now) }
@@ -110,23 +74,17 @@ fn lengths<G: Gate, R: Threads + Sync>(
         requires { k < length pieces.now }
         ensures { result ≡ (row_at pieces.entry.now k).length }
     { pieces.piece(k).length };
-    map(rt, alloc, plan, gate, numbers, &of_number)
+    crew.map(numbers, &of_number)
 }
 
 // The tokens among pieces.
-pub(crate) fn tokens<G: Gate, R: Threads + Sync>(
-    rt: &R,
-    alloc: Global,
-    plan: &Plan,
-    gate: &G,
-    pieces: &Pieces,
-) -> Result<Tokens, AllocError>
+pub(crate) fn tokens(crew: &impl Passes, pieces: &Pieces) -> Result<Tokens, AllocError>
     requires len { length pieces.now ≤ 2 ^ 32 }
     ensures { IfOk result (λ t. t ≡ columns pieces.now) }
 {
-    let numbers = kept(rt, alloc, plan, gate, pieces.meanings())?;
-    let kinds = kinds(rt, alloc, plan, gate, pieces, numbers.as_slice())?;
-    let starts = starts(rt, alloc, plan, gate, pieces, numbers.as_slice())?;
-    let lengths = lengths(rt, alloc, plan, gate, pieces, numbers.as_slice())?;
+    let numbers = kept(crew, pieces.meanings())?;
+    let kinds = kinds(crew, pieces, numbers.as_slice())?;
+    let starts = starts(crew, pieces, numbers.as_slice())?;
+    let lengths = lengths(crew, pieces, numbers.as_slice())?;
     Ok(Tokens::new(kinds, starts, lengths))
 }

@@ -10,6 +10,7 @@ use crate::faults::{Diagnostic, least_key, told_by};
 use crate::kept::tokens;
 use ast_rows::Tokens;
 use chunk_seats::{Gate, Plan};
+use par_passes::Workers;
 use std::alloc::Global;
 use std::thread::Threads;
 
@@ -30,6 +31,14 @@ pub fn lex<G: Gate, R: Threads + Sync>(
     let key = least_key(rt, alloc, plan, gate, &pieces)?;
     match told_by(key) {
         Some(Diagnostic { code, at }) => Err(LexFault::Diagnostic { code, at }),
-        None => Ok(tokens(rt, alloc, plan, gate, &pieces)?),
+        None => Ok(tokens(
+            &Workers {
+                runtime: rt,
+                alloc,
+                plan: *plan,
+                gate,
+            },
+            &pieces,
+        )?),
     }
 }

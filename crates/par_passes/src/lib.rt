@@ -11,6 +11,7 @@ mod fill;
 mod marked;
 mod numbered;
 mod order;
+mod passes;
 mod places;
 
 pub use each::{map, map_lifted};
@@ -18,6 +19,7 @@ pub use fewest::least;
 pub use marked::compact;
 pub use numbered::{positions, tabulate};
 pub use order::sorted;
+pub use passes::{Passes, Workers};
 pub use places::gather;
 pub use scan_lookback::{Lift, scan, scan_lifted};
 pub use scatter_rows::scatter;

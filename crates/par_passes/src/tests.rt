@@ -28,35 +28,35 @@ fn rows<R: Threads + Abort + Sync>(
     workers: u32,
     chunk: u32,
 ) -> Result<(), Fail> {
-    let plan = Plan::new(workers, chunk).ok_or("in range")?;
-    let more = map_lifted(rt, alloc, &plan, &OpenGate, &[1, 2], &More)?;
-    assert!(rt; more.as_slice() == [2, 3].as_slice());
-    let none = map_lifted(rt, alloc, &plan, &OpenGate, &[], &More)?;
-    assert!(rt; none.is_empty());
-    let placed = gather(rt, alloc, &plan, &OpenGate, &[5, 6, 7], &[2, 0, 2])?;
-    assert!(rt; placed.as_slice() == [7, 5, 7].as_slice());
-    let kept = compact(
-        rt,
+    let crew = Workers {
+        runtime: rt,
         alloc,
-        &plan,
-        &OpenGate,
-        &[5, 6, 7],
-        &[true, false, true],
-    )?;
-    assert!(rt; kept.as_slice() == [5, 7].as_slice());
-    let places = positions(rt, alloc, &plan, &OpenGate, &[5, 6, 7], &|x: u32| x != 6)?;
-    assert!(rt; places.as_slice() == [0, 2].as_slice());
-    let table = tabulate(rt, alloc, &plan, &OpenGate, 3, &|k: u32| k / 2)?;
-    assert!(rt; table.as_slice() == [0, 0, 1].as_slice());
-    let none = tabulate(rt, alloc, &plan, &OpenGate, 0, &|k: u32| k / 2)?;
+        plan: Plan::new(workers, chunk).ok_or("in range")?,
+        gate: &OpenGate,
+    };
+    let more = crew.map_lifted(&[1, 2], &More)?;
+    assert!(rt; more.as_slice() == [2, 3].as_slice());
+    let none = crew.map_lifted(&[], &More)?;
     assert!(rt; none.is_empty());
-    assert_eq!(rt; least(rt, alloc, &plan, &OpenGate, &[4, 2, 9])?, 2);
-    assert_eq!(rt; least(rt, alloc, &plan, &OpenGate, &[])?, u64::MAX);
-    let up = sorted(rt, alloc, &plan, &[3, 1, 2])?;
+    let half = crew.map(&[2, 5], &|x: u32| x / 2)?;
+    assert!(rt; half.as_slice() == [1, 2].as_slice());
+    let placed = crew.gather(&[5, 6, 7], &[2, 0, 2])?;
+    assert!(rt; placed.as_slice() == [7, 5, 7].as_slice());
+    let kept = crew.compact(&[5, 6, 7], &[true, false, true])?;
+    assert!(rt; kept.as_slice() == [5, 7].as_slice());
+    let places = crew.positions(&[5, 6, 7], &|x: u32| x != 6)?;
+    assert!(rt; places.as_slice() == [0, 2].as_slice());
+    let table = crew.tabulate(3, &|k: u32| k / 2)?;
+    assert!(rt; table.as_slice() == [0, 0, 1].as_slice());
+    let none = crew.tabulate(0, &|k: u32| k / 2)?;
+    assert!(rt; none.is_empty());
+    assert_eq!(rt; crew.least(&[4, 2, 9])?, 2);
+    assert_eq!(rt; crew.least(&[])?, u64::MAX);
+    let up = crew.sorted(&[3, 1, 2])?;
     assert!(rt; up.as_slice() == [1, 2, 3].as_slice());
-    let sums = scan_lifted(rt, alloc, &plan, &OpenGate, &Count, &[2, 0, 3, 0, 4], &More)?;
+    let sums = crew.scan_lifted(&Count, &[2, 0, 3, 0, 4], &More)?;
     assert!(rt; sums.as_slice() == [0, 3, 4, 8, 9, 14].as_slice());
-    let cells = scatter(rt, alloc, &plan, &OpenGate, &[2, 0], &[7, 9], 4)?;
+    let cells = crew.scatter(&[2, 0], &[7, 9], 4)?;
     assert!(rt; cells.as_slice() == [9, 0, 7, 0].as_slice());
     Ok(())
 }

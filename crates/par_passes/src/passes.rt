@@ -1,0 +1,312 @@
+//! The passes, and who does them.
+ghost use Rattle.std.specs.Prelude.{◌≡◌, ◌-◌, ◌<◌, ◌≤◌, ◌^◌, ℕ, Bool, List, Ok, length, slice_index_or, All, map, filter, flat_map, fold, min, IfOk, IsPermutation, IsSorted};
+ghost use Rattle.std.specs.Global.{Vec};
+ghost use Rattle.std.specs.List.{range_with_len, zip};
+ghost use Rattle.word_monoid.specs.Folds.{prefixes};
+ghost use Rattle.word_monoid.specs.Monoid.{IsItem};
+ghost use Rattle.scatter_rows.specs.Scattered.{AreDistinct, IsScattered};
+ghost use Rattle.par_passes.specs.Passes.{marked};
+
+use crate::crew::by_chunks;
+use crate::each::{map, map_lifted};
+use crate::fewest::least;
+use crate::marked::compact;
+use crate::numbered::{positions, tabulate};
+use crate::order::sorted;
+use crate::places::gather;
+use chunk_seats::{Gate, Plan};
+use scan_lookback::{Lift, Lifted, scan, scan_lifted};
+use scatter_rows::scatter;
+use std::alloc::{AllocError, Global};
+use std::thread::Threads;
+use word_monoid::WordMonoid;
+
+/// A crew of workers that does passes over arrays. Each answer is the same for every plan and gate, and the only refusal is that
+/// memory is out. A function that does passes takes one value, `crew: &impl Passes`.
+pub trait Passes {
+    /// What makes the workers' threads.
+    type Runtime: Threads + Sync;
+
+    /// The kind of the hook.
+    type Hook: Gate;
+
+    /// What makes the workers' threads.
+    fn runtime(&self) -> &Self::Runtime;
+
+    /// Where the lists of the answers lie.
+    fn alloc(&self) -> Global;
+
+    /// How many workers there are, and how the work is cut.
+    fn plan(&self) -> Plan;
+
+    /// The hook that is called after each claim.
+    fn gate(&self) -> &Self::Hook;
+
+    /// What the function gives for each item, in the items' order.
+    final fn map<T: Copy + Sync, U: Copy + Send + Sync, F: Fn(T) -> U + Sync>(
+        &self,
+        items: &[T],
+        f: &F,
+    ) -> Result<Vec<U>, AllocError>
+        requires len { length items.now < 2 ^ 62 }
+        requires callable { All (F.pre f.now) items.now }
+        ensures { IfOk result (λ v. (g : T → U) → All (λ x. (r : U) → F.post f.now x r → r ≡ g x) items.now → v.items ≡ map g items.now) }
+    {
+        map(
+            self.runtime(),
+            self.alloc(),
+            &self.plan(),
+            self.gate(),
+            items,
+            f,
+        )
+    }
+
+    /// The same for a function that contracts can name.
+    final fn map_lifted<T: Copy + Sync, U: Copy + Send + Sync, L: Lift<T, U> + Sync>(
+        &self,
+        items: &[T],
+        lift: &L,
+    ) -> Result<Vec<U>, AllocError>
+        requires len { length items.now < 2 ^ 62 }
+        ensures { IfOk result (λ v. v.items ≡ map (L.lifted lift.now) items.now) }
+    {
+        map_lifted(
+            self.runtime(),
+            self.alloc(),
+            &self.plan(),
+            self.gate(),
+            items,
+            lift,
+        )
+    }
+
+    /// The items that are marked, in the items' order.
+    final fn compact<T: Copy + Send + Sync>(
+        &self,
+        items: &[T],
+        marks: &[bool],
+    ) -> Result<Vec<T>, AllocError>
+        requires len { length items.now < 2 ^ 62 }
+        requires marks { length marks.now ≡ length items.now }
+        ensures { IfOk result (λ v. v.items ≡ map (λ p. p.0) (filter (λ p. p.1) (zip items.now marks.now))) }
+    {
+        compact(
+            self.runtime(),
+            self.alloc(),
+            &self.plan(),
+            self.gate(),
+            items,
+            marks,
+        )
+    }
+
+    /// The places of the items for which the function says true, in order.
+    final fn positions<T: Copy + Sync, F: Fn(T) -> bool + Sync>(
+        &self,
+        items: &[T],
+        f: &F,
+    ) -> Result<Vec<u32>, AllocError>
+        requires len { length items.now ≤ 2 ^ 32 }
+        requires callable { All (F.pre f.now) items.now }
+        ensures { IfOk result (λ v. (g : T → Bool) → All (λ x. (r : Bool) → F.post f.now x r → r ≡ g x) items.now → v.items ≡ marked (range_with_len 0 (length items.now)) (map g items.now)) }
+    {
+        positions(
+            self.runtime(),
+            self.alloc(),
+            &self.plan(),
+            self.gate(),
+            items,
+            f,
+        )
+    }
+
+    /// What the function gives for each number below `count`, in order.
+    final fn tabulate<U: Copy + Send + Sync, F: Fn(u32) -> U + Sync>(
+        &self,
+        count: u32,
+        f: &F,
+    ) -> Result<Vec<U>, AllocError>
+        requires callable { All (F.pre f.now) (range_with_len 0 count) }
+        ensures { IfOk result (λ v. (g : ℕ → U) → All (λ k. (r : U) → F.post f.now k r → r ≡ g k) (range_with_len 0 count) → v.items ≡ map g (range_with_len 0 count)) }
+    {
+        tabulate(
+            self.runtime(),
+            self.alloc(),
+            &self.plan(),
+            self.gate(),
+            count,
+            f,
+        )
+    }
+
+    /// The item at each of the places, in the places' order.
+    final fn gather<T: Copy + Send + Sync>(
+        &self,
+        items: &[T],
+        places: &[u64],
+    ) -> Result<Vec<T>, AllocError>
+        requires len { length places.now < 2 ^ 62 }
+        requires in_range { All (λ p. p < length items.now) places.now }
+        ensures { IfOk result (λ v. (d : T) → v.items ≡ map (λ p. slice_index_or items.now p d) places.now) }
+    {
+        gather(
+            self.runtime(),
+            self.alloc(),
+            &self.plan(),
+            self.gate(),
+            items,
+            places,
+        )
+    }
+
+    /// The least of the keys, and `u64::MAX` where there is none.
+    final fn least(&self, keys: &[u64]) -> Result<u64, AllocError>
+        requires len { length keys.now < 2 ^ 62 }
+        ensures { IfOk result (λ m. m ≡ fold min (2 ^ 64 - 1) keys.now) }
+    {
+        least(
+            self.runtime(),
+            self.alloc(),
+            &self.plan(),
+            self.gate(),
+            keys,
+        )
+    }
+
+    /// The keys in ascending order. Keys that are equal may stand in another order under another plan. One worker, and keys of one chunk, are
+    /// sorted in the caller's thread.
+    final fn sorted<K: Copy + Ord + Send>(&self, keys: &[K]) -> Result<Vec<K>, AllocError>
+        ensures same_keys { IfOk result (λ v. IsPermutation keys.now v.items) }
+        ensures ascending { IfOk result (λ v. IsSorted K.cmp v.items) }
+    {
+        sorted(self.runtime(), self.alloc(), &self.plan(), keys)
+    }
+
+    /// The join of what is made of the items before each item, and then the join of all: one more than there are items.
+    final fn scan_lifted<
+        T: Copy + Sync,
+        M: WordMonoid<Item: Send + Sync> + Sync,
+        L: Lift<T, M::Item> + Sync,
+    >(&self, monoid: &M, items: &[T], lift: &L) -> Result<Vec<M::Item>, AllocError>
+        requires len { length items.now < 2 ^ 62 }
+        requires accepted { All (λ x. IsItem (M.ops monoid.now) (L.lifted lift.now x)) items.now }
+        ensures { IfOk result (λ v. v.items ≡ prefixes (M.ops monoid.now) (map (L.lifted lift.now) items.now)) }
+    {
+        scan_lifted(
+            self.runtime(),
+            self.alloc(),
+            &self.plan(),
+            self.gate(),
+            monoid,
+            items,
+            lift,
+        )
+    }
+
+    /// The same for a closure. K names the code of what it gives for an item; the call passes `Brand` and picks it.
+    final fn scan<
+        T: Copy + Sync,
+        M: WordMonoid<Item: Send + Sync> + Sync,
+        F: Fn(T) -> M::Item + Sync,
+        K: Lifted<T>,
+    >(&self, monoid: &M, items: &[T], lift: &F) -> Result<Vec<M::Item>, AllocError>
+        requires len { length items.now < 2 ^ 62 }
+        requires callable { F.IsAlwaysCallable lift.now }
+        requires lifts { (x : T) (r : M.Item) → F.post lift.now x r → r ≡ (M.ops monoid.now).decode (K.code_of x) }
+        requires accepted { All (λ x. IsItem (M.ops monoid.now) ((M.ops monoid.now).decode (K.code_of x))) items.now }
+        ensures { IfOk result (λ v. v.items ≡ prefixes (M.ops monoid.now) (map (λ x. (M.ops monoid.now).decode (K.code_of x)) items.now)) }
+    {
+        scan::<T, M, F, Self::Hook, Self::Runtime, K>(
+            self.runtime(),
+            self.alloc(),
+            &self.plan(),
+            self.gate(),
+            monoid,
+            items,
+            lift,
+        )
+    }
+
+    /// What is made of each number below `count`, one list behind the other, in the order of the numbers. `capacity` says how many values
+    /// there will be.
+    final fn by_chunks<U: Copy + Send + Sync, F: Fn(u64) -> Result<Vec<U>, AllocError> + Sync>(
+        &self,
+        count: usize,
+        capacity: usize,
+        make: &F,
+    ) -> Result<Vec<U>, AllocError>
+        requires count { count < 2 ^ 62 }
+        requires callable { F.IsAlwaysCallable make.now }
+        ensures { IfOk result (λ v. (part : ℕ → List U) → ((c : ℕ) (x : Vec U) → c < count → F.post make.now c (Ok x) → x.items ≡ part c) → v.items ≡ flat_map part (range_with_len 0 count)) }
+    {
+        by_chunks(
+            self.runtime(),
+            self.alloc(),
+            &self.plan(),
+            self.gate(),
+            count,
+            capacity,
+            make,
+        )
+    }
+
+    /// The list of `len` cells in which each place holds its value, and every other cell 0.
+    final fn scatter(
+        &self,
+        places: &[u64],
+        values: &[u64],
+        len: u64,
+    ) -> Result<Vec<u64>, AllocError>
+        requires lists { (length values.now ≡ length places.now) × (length places.now < 2 ^ 62) }
+        requires inside { All (λ p. p < len) places.now }
+        requires distinct { AreDistinct places.now }
+        requires small { All (λ v. v < 2 ^ 64 - 1) values.now }
+        ensures { IfOk result (λ v. IsScattered places.now values.now len v.items) }
+    {
+        scatter(
+            self.runtime(),
+            self.alloc(),
+            &self.plan(),
+            self.gate(),
+            places,
+            values,
+            len,
+        )
+    }
+}
+
+/// The workers of a runtime.
+#[derive_where(Clone, Copy)]
+pub struct Workers<'a, R, G> {
+    /// What makes their threads.
+    pub runtime: &'a R,
+    /// Where the lists of the answers lie.
+    pub alloc: Global,
+    /// How many there are, and how the work is cut.
+    pub plan: Plan,
+    /// The hook that is called after each claim.
+    pub gate: &'a G,
+}
+
+impl<R: Threads + Sync, G: Gate> Passes for Workers<'_, R, G> {
+    type Runtime = R;
+
+    type Hook = G;
+
+    fn runtime(&self) -> &R {
+        self.runtime
+    }
+
+    fn alloc(&self) -> Global {
+        self.alloc
+    }
+
+    fn plan(&self) -> Plan {
+        self.plan
+    }
+
+    fn gate(&self) -> &G {
+        self.gate
+    }
+}
