@@ -11,7 +11,7 @@ use Rattle.source_meaning.specs.declared.kinds.Terminal.TheVariants.{FnWord, Ide
 use Rattle.source_meaning.specs.Lexemes.{is_digit, is_blank, is_number, is_white, Spelling, or_else, terminal_of, is_lexeme, pieces, Token, tokens_from, tokens, decimal_value, is_large, lexemes_end, lexical_fault}
 use Rattle.source_meaning.specs.Worked.{seven}
 use Rattle.source_meaning.proofs.Cut.{pieces_joined}
-use Rattle.rv_select.specs.Code.{instructions}
+use Rattle.rv_code.specs.Code.{instructions}
 use Rattle.verdict.specs.Verdict.{Accepted, IsVerdict, parsed, judged}
 use Rattle.pareas_core.specs.OneFunction.{Returns, returning}
 use Rattle.pareas_core.proofs.Lexing.{digit_no_name, blank_no_name, blank_no_number, begins_with_digit, begins_with_blank}

@@ -2,7 +2,7 @@
 
 ghost use Rattle.std.specs.Prelude.{◌≡◌, ◌≤◌, All, IfOk, map};
 ghost use Rattle.rv_isa.specs.Encoding.{InRange, word};
-ghost use Rattle.rv_select.specs.Code.{instructions as instructions_of};
+ghost use Rattle.rv_code.specs.Code.{instructions as instructions_of};
 ghost use Rattle.verdict.specs.Verdict.{image};
 ghost use Rattle.pareas_core.specs.OneFunction.{returning};
 
