@@ -1,134 +1,116 @@
 //! The parallel left parse.
-ghost use Rattle.std.specs.Prelude.{◌≡◌, ◌<◌, ◌^◌, length, sum, IfErr, IfOk};
-ghost use Rattle.llp_glue.specs.Parsing.{IsFailing, IsFaultBy, IsGlued, IsLeftParseBy, bracket_counts as counts_of, failing_key};
-ghost use Rattle.llp_glue.specs.declared.fault.ParseFault.TheVariants.{NoMemory as Out};
+ghost use Rattle.std.specs.Prelude.{◌≡◌, ◌<◌, ◌≤◌, length, flat_map, IfErr, IfOk};
+ghost use Rattle.std.specs.List.{range_with_len};
+ghost use Rattle.chunk_seats.specs.Chunks.{chunk_count};
+ghost use Rattle.grammar_file.specs.Grammar.{begin_mark};
+ghost use Rattle.glue_summary.specs.Marks.{chunk_marks};
+ghost use Rattle.glue_summary.specs.Parsing.{IsFaultBy, IsLeftParseBy};
+ghost use Rattle.glue_summary.specs.Stretch.{IsGlued, IsRunFault, chunk_productions, entries_of, start_of};
 
-use crate::brackets::all_brackets;
-use crate::fault::ParseFault;
-use crate::owners::parts_of;
-use crate::sources::{
-    Source, all_productions, are_few, bracket_counts, production_counts, sources_of,
+use chunk_seats::Gate;
+use glue_summary::{
+    Mark, ParseFault, Walk, count_chunks, ended, join_word, marks_of_chunk, productions_of_chunk,
 };
-use crate::unmet::{NO_KEY, least_failing};
-use chunk_seats::{Gate, Plan};
-use grammar_file::Symbol;
 use llp_tables::Tables;
-use par_passes::Workers;
-use std::alloc::{AllocError, Global};
-use std::thread::Threads;
+use par_passes::Passes;
+use std::alloc::AllocError;
 
-// A list of 2^61 numbers of 64 bits is more than any memory has.
-fn too_many(alloc: Global) -> ParseFault
-    ensures { result ≡ Out }
+// The marks of the summaries of all chunks.
+fn all_marks(
+    crew: &impl Passes,
+    tables: &Tables,
+    tokens: &[u16],
+    size: u32,
+) -> Result<Vec<Mark>, AllocError>
+    requires size { (0 < size) × (size ≤ 65536) }
+    ensures { IfOk result (λ v. v.items ≡ flat_map (chunk_marks tables.now size tokens.now) (range_with_len 0 (chunk_count size (length tokens.now)))) }
 {
-    let _ = Vec::<u64>::with_capacity(alloc, 1 << 61);
-    ParseFault::NoMemory
+    let alloc = crew.alloc();
+    let marks = |c: u64| -> Result<Vec<Mark>, AllocError>
+        ensures { IfOk result (λ v. v.items ≡ chunk_marks tables.entry.now size tokens.entry.now c) }
+    { marks_of_chunk(alloc, tables, tokens, size, c) };
+    let count = count_chunks(tokens, size);
+    crew.by_chunks(count, count, &marks)
 }
 
-// The least pair that fails, and `NO_KEY` where there is none.
-fn failing_pair<G: Gate, R: Threads + Sync>(
-    rt: &R,
-    alloc: Global,
-    plan: &Plan,
-    gate: &G,
+// The productions of all chunks.
+fn all_productions(
+    crew: &impl Passes,
     tables: &Tables,
-    start: &[Symbol],
-    sources: &[Source],
-    counts: &[u64],
-) -> Result<u64, AllocError>
-    requires counts { counts.now ≡ counts_of tables.now start.now sources.now }
-    requires few { sum counts.now < 2 ^ 61 }
-    ensures { IfOk result (λ m. m ≡ failing_key tables.now start.now sources.now) }
+    tokens: &[u16],
+    size: u32,
+) -> Result<Vec<u16>, AllocError>
+    requires size { (0 < size) × (size ≤ 65536) }
+    ensures { IfOk result (λ v. v.items ≡ flat_map (chunk_productions tables.now size tokens.now) (range_with_len 0 (chunk_count size (length tokens.now)))) }
 {
-    let parts = parts_of(
-        &Workers {
-            runtime: rt,
-            alloc,
-            plan: *plan,
-            gate,
-        },
-        counts,
-    )?;
-    let parts = parts.as_slice();
-    let brackets = all_brackets(rt, alloc, plan, gate, tables, start, sources, counts, parts)?;
-    least_failing(
-        rt,
-        alloc,
-        plan,
-        gate,
-        tables,
-        start,
-        sources,
-        brackets.as_slice(),
-        parts,
-    )
+    let alloc = crew.alloc();
+    let productions = |c: u64| -> Result<Vec<u16>, AllocError>
+        ensures { IfOk result (λ v. v.items ≡ chunk_productions tables.entry.now size tokens.entry.now c) }
+    { productions_of_chunk(alloc, tables, tokens, size, c) };
+    crew.by_chunks(count_chunks(tokens, size), tokens.len(), &productions)
 }
 
-// The productions of all sources, or the least pair that fails.
-fn glue<G: Gate, R: Threads + Sync>(
-    rt: &R,
-    alloc: Global,
-    plan: &Plan,
-    gate: &G,
+// By the whole crew: what each chunk closes and opens, these joined in order onto the stack of the start, and then each chunk's productions.
+fn glue_by_chunks(
+    crew: &impl Passes,
     tables: &Tables,
-    start: &[Symbol],
-    sources: &[Source],
+    tokens: &[u16],
+    size: u32,
 ) -> Result<Vec<u16>, ParseFault>
-    requires len { length sources.now < 2 ^ 62 }
-    ensures ok { IfOk result (λ ps. IsGlued tables.now start.now sources.now ps.items) }
-    ensures fault { IfErr result (IsFailing tables.now start.now sources.now) }
+    requires size { (0 < size) × (size ≤ 65536) }
+    ensures ok { IfOk result (λ v. IsGlued tables.now tokens.now v.items) }
+    ensures fault { IfErr result (IsRunFault (entries_of tables.now begin_mark tokens.now) (start_of tables.now)) }
 {
-    let brackets = bracket_counts(rt, alloc, plan, gate, tables, start, sources)?;
-    let productions = production_counts(rt, alloc, plan, gate, tables, start, sources)?;
-    if !are_few(brackets.as_slice()) || !are_few(productions.as_slice()) {
-        return Err(too_many(alloc));
+    let marks = all_marks(crew, tables, tokens, size)?;
+    join_word(crew.alloc(), tables, tokens, size, marks.as_slice())?;
+    Ok(all_productions(crew, tables, tokens, size)?)
+}
+
+// By one worker alone: the pairs are followed on the true stack, and their productions are written on the way.
+fn glue_in_turn(
+    crew: &impl Passes,
+    tables: &Tables,
+    tokens: &[u16],
+    size: u32,
+) -> Result<Vec<u16>, ParseFault>
+    requires size { (0 < size) × (size ≤ 65536) }
+    ensures ok { IfOk result (λ v. IsGlued tables.now tokens.now v.items) }
+    ensures fault { IfErr result (IsRunFault (entries_of tables.now begin_mark tokens.now) (start_of tables.now)) }
+{
+    let mut walk = Walk::start(crew.alloc(), tables, tokens.len())?;
+    for c in 0..count_chunks(tokens, size) as u64 {
+        crew.gate().after_claim(0, Some(c));
+        walk.follow_chunk(tables, tokens, size, c)?;
     }
-    let at = failing_pair(
-        rt,
-        alloc,
-        plan,
-        gate,
-        tables,
-        start,
-        sources,
-        brackets.as_slice(),
-    )?;
-    if at < NO_KEY {
-        return Err(ParseFault::Syntax { at });
+    crew.gate().after_claim(0, None);
+    Ok(walk.productions())
+}
+
+// The productions of all pairs, or the least pair that fails.
+fn glue(crew: &impl Passes, tables: &Tables, tokens: &[u16]) -> Result<Vec<u16>, ParseFault>
+    ensures ok { IfOk result (λ v. IsGlued tables.now tokens.now v.items) }
+    ensures fault { IfErr result (IsRunFault (entries_of tables.now begin_mark tokens.now) (start_of tables.now)) }
+{
+    let plan = crew.plan();
+    if plan.workers == 1 || tokens.len() <= plan.chunk as usize {
+        glue_in_turn(crew, tables, tokens, plan.chunk)
+    } else {
+        glue_by_chunks(crew, tables, tokens, plan.chunk)
     }
-    let left_parse = all_productions(
-        rt,
-        alloc,
-        plan,
-        gate,
-        tables,
-        start,
-        sources,
-        productions.as_slice(),
-    )?;
-    Ok(left_parse)
 }
 
 /// The left parse of a word, by the tables of a grammar: the productions, in order, of the one tree that derives the word. It is
-/// the same for every plan and gate. A token that the tables don't have fails at its place.
+/// the same for every plan and gate, and the only other refusal is that memory is out. A token that the tables don't have fails at
+/// its place.
 ///
-/// Each pair of neighbouring tokens closes brackets and opens others, by its entry. Where each closing bracket meets an opening one
-/// of its symbol, the productions of all pairs, one behind the other, are the left parse (Vagner and Melichar, "Parallel LL
-/// Parsing"). Work and memory are linear in the numbers of tokens, brackets and productions, but for one logarithmic look-up a
-/// bracket.
-pub fn parse<G: Gate, R: Threads + Sync>(
-    rt: &R,
-    alloc: Global,
-    plan: &Plan,
-    gate: &G,
-    tables: &Tables,
-    word: &[u16],
-) -> Result<Vec<u16>, ParseFault>
+/// Each pair of neighbouring tokens closes symbols and opens others, by its entry, and so does each chunk of pairs. Where what they
+/// close is always what the pairs before have opened, the productions of all pairs, one behind the other, are the left parse
+/// (Vagner and Melichar, "Parallel LL Parsing"). Work and memory are linear in the numbers of tokens, of symbols that pairs close and
+/// open, and of productions.
+pub fn parse(crew: &impl Passes, tables: &Tables, word: &[u16]) -> Result<Vec<u16>, ParseFault>
     ensures ok { IfOk result (λ ps. IsLeftParseBy tables.now word.now ps.items) }
     ensures fault { IfErr result (IsFaultBy tables.now word.now) }
 {
-    let end = tables.width().saturating_sub(1);
-    let start = [Symbol::Nonterminal(0), Symbol::Terminal(end)];
-    let sources = sources_of(alloc, end, word)?;
-    glue(rt, alloc, plan, gate, tables, &start, sources.as_slice())
+    let tokens = ended(crew.alloc(), tables, word)?;
+    glue(crew, tables, tokens.as_slice())
 }

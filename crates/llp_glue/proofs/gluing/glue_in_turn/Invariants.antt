@@ -1,0 +1,6 @@
+-- The walk has followed the chunks so far.
+use Rattle.glue_summary.specs.Stretch.{HasFollowed}
+use Rattle.llp_glue.proofs.gluing.glue_in_turn.Given as goal
+
+abbrev pub invariant-loop-c : goal.invariant-loop-c
+invariant-loop-c g l = HasFollowed l.fn.tables l.fn.size l.fn.tokens l.c l.walk
