@@ -1,0 +1,103 @@
+-- The columns of rows in the order of closing are those of their marks.
+use Rattle.std.proofs.Common.{◌≡◌, ℕ, zero, suc, ◌+◌, ◌-◌, ◌*◌, ◌^◌, ◌<◌, ◌≤◌, Bool, true, false, All, List, [], ◌∷◌, ◌++◌, length, map, min, get_or, take, drop, Option, Some, None, refl, sym, ap, ◌∙◌, subst, arith}
+use Rattle.std.specs.Prelude.{if◌then◌else◌, nat_lt, ◌==◌}
+use Rattle.std.specs.List.{range_with_len}
+use Rattle.std.proofs.lemmas.Bool.Decides.{nat_tests}
+use Rattle.std.proofs.lemmas.List.{length-map, get_or-map, get_or_append_left, get_or_at}
+use Rattle.std.proofs.lemmas.List.FromFn.{length-range_with_len}
+use Rattle.source_meaning.specs.declared.kinds.Kind.{Kind}
+use Rattle.source_meaning.specs.declared.kinds.Kind.TheVariants.{Binary, Num, Unary, Program as ProgramKind}
+use Rattle.source_meaning.specs.declared.kinds.ValueType.{ValueType}
+use Rattle.source_meaning.specs.declared.kinds.Terminal.TheVariants.{Digits}
+use Rattle.source_meaning.specs.Lexemes.{Token, decimal_value}
+use Rattle.source_meaning.specs.Grammar.{Production, right, fn, ct_cmp, st_add, mt_mul, u_unop, p_num, call_args, call_none, stmt_else, stmt_eval}
+use Rattle.ast_rows.specs.NodeRows.{token_word}
+use Rattle.row_laws.specs.Marks.{Mark, mark}
+use Rattle.row_laws.specs.Emitted.{type_of}
+use Rattle.row_laws.specs.Levels.{kids, levels}
+use Rattle.row_laws.specs.Spans.{total}
+use Rattle.row_laws.specs.Owned.{reads_count}
+use Rattle.row_laws.specs.Along.{has_row, kind_by, token_by, first_of, as_cmp, as_add, as_mul, as_unop}
+use Rattle.row_laws.specs.Places.{production_at, open_at, next_low, sum_before, behind}
+use Rattle.row_laws.specs.Placed.{close_at, has_at, joins_at, rows_before, begin_at, before_it, head_at, size_at, reads_at, read_at, taken_at, type_named, named_at, row_at}
+use Rattle.row_laws.specs.Climbed.{no_mark, mark_at}
+use Rattle.row_laws.specs.Standing.{marks_in}
+use Rattle.row_laws.proofs.Standing.{row_few}
+use Rattle.tree_passes.specs.Numbers.{production_of}
+use Rattle.tree_passes.specs.Shapes.{shape_of, shape_word}
+use Rattle.tree_passes.specs.Spelled.{spelled}
+use Rattle.tree_passes.specs.Columns.{numbers_of}
+use Rattle.tree_passes.specs.Reading.{in_order, numbered}
+use Rattle.tree_passes.proofs.Ranges.{same_below}
+use Rattle.tree_passes.proofs.Followed.{is_fn}
+
+-- ---- the marks in an order
+module _ (d : Token) (ps : List Production) (ts : List Token) (order : List ℕ) where
+  abbrev ms_ : List Mark
+  ms_ = marks_in d ps ts order
+
+  pub marks_many : length ms_ ≡ length order + 1
+  marks_many = ends (map (row_at d ps ts) order) (mark ProgramKind None (length order + 1)) ∙ ap (λ (n : ℕ). n + 1) (length-map order (row_at d ps ts))
+    where
+      ends : (xs : List Mark) (x : Mark) → length (xs ++ x ∷ []) ≡ length xs + 1
+      ends [] x = refl
+      ends (y ∷ xs) x = let e = ends xs x in omega arith
+
+  pub mark_inside : (k : ℕ) → k < length order → mark_at ms_ k ≡ row_at d ps ts (get_or order k 0)
+  mark_inside k h =
+      get_or_append_left (map (row_at d ps ts) order) (mark ProgramKind None (length order + 1) ∷ []) no_mark k (let z = length-map order (row_at d ps ts) in omega arith)
+      ∙ get_or-map (row_at d ps ts) order k 0 no_mark h
+
+  pub mark_last : (k : ℕ) → k ≡ length order → mark_at ms_ k ≡ mark ProgramKind None (length order + 1)
+  mark_last k e = get_or_at (map (row_at d ps ts) order) (mark ProgramKind None (length order + 1)) [] no_mark k (length-map order (row_at d ps ts) ∙ sym e)
+
+  pub column_is : {X : Type 0} (f : ℕ → X) (whole : X) (g : Mark → X) (n : ℕ) → All (λ i. i < n) order → ((i : ℕ) → i < n → f i ≡ g (row_at d ps ts i)) → whole ≡ g (mark ProgramKind None (length order + 1)) → map (in_order order f whole) (range_with_len 0 (length order + 1)) ≡ map (λ k. g (mark_at ms_ k)) (numbers_of ms_)
+  column_is f whole g n below h w =
+      same_below (in_order order f whole) (λ k. g (mark_at ms_ k)) (length order + 1) (λ k l. by k l (nat_lt k (length order)) refl)
+      ∙ ap (λ (m : ℕ). map (λ k. g (mark_at ms_ k)) (range_with_len 0 m)) (sym marks_many)
+    where
+      by : (k : ℕ) → k < length order + 1 → (b : Bool) → nat_lt k (length order) ≡ b → (if b then f (get_or order k 0) else whole) ≡ g (mark_at ms_ k)
+      by k l true e = let less : k < length order = grind (arith, nat_tests) in h (get_or order k 0) (below k 0 less) ∙ sym (ap g (mark_inside k less))
+      by k l false e = let more : length order ≤ k = grind (arith, nat_tests) in w ∙ sym (ap g (mark_last k (omega arith)))
+
+-- ---- the kind of a row
+abbrev pub is_num : Production → Bool
+is_num p_num = true
+is_num p = false
+
+abbrev pub reads_some : Production → Bool
+reads_some p = nat_lt 0 (reads_count p)
+
+pub kind_is : (p : Production) (lexeme : List ℕ) (mine : Token) (ty : ValueType) (joins : Bool) → (reads_some p ≡ true → lexeme ≡ mine.lexeme) → (is_num p ≡ true → decimal_value mine.lexeme ≤ 2147483647) → shape_word (shape_of p) lexeme ty ≡ kind_by p mine ty joins
+kind_is ct_cmp l k ty joins h g = ap (λ x. Binary (as_cmp (spelled x))) (h refl)
+kind_is st_add l k ty joins h g = ap (λ x. Binary (as_add (spelled x))) (h refl)
+kind_is mt_mul l k ty joins h g = ap (λ x. Binary (as_mul (spelled x))) (h refl)
+kind_is u_unop l k ty joins h g = ap (λ x. Unary (as_unop (spelled x))) (h refl)
+kind_is p_num l k ty joins h g = ap (λ x. Num (min (decimal_value x) 4294967295)) (h refl) ∙ ap Num (let e = g refl in let f : min (decimal_value k.lexeme) 4294967295 ≡ decimal_value k.lexeme = omega arith in f)
+kind_is p l k ty joins h g = refl
+
+pub far_other : (p far fra near : Production) → is_fn p ≡ false → type_named p far near ≡ type_named p fra near
+far_other fn far fra near e = absurd (cc)
+far_other p far fra near e = refl
+
+-- ---- its own token
+pub number_only : (p : Production) (k l : Token) (at : ℕ) (joins : Bool) → k.number ≡ l.number → token_by p k at joins None ≡ token_by p l at joins None
+number_only call_args k l at joins e = refl
+number_only call_none k l at joins e = refl
+number_only stmt_else k l at true e = refl
+number_only stmt_else k l at false e = ap (λ (n : ℕ). Some n) e
+number_only stmt_eval k l at joins e = refl
+number_only p k l at joins e = ap (λ (n : ℕ). Some n) e
+
+-- ---- its size
+total_few : (f : ℕ → ℕ) (ks : List ℕ) (i : ℕ) → ((k : ℕ) → f k ≤ 1) → total (take i (map f ks)) ≤ length ks
+total_few f [] zero h = omega arith
+total_few f [] (suc i) h = omega arith
+total_few f (k ∷ ks) zero h = omega arith
+total_few f (k ∷ ks) (suc i) h = let a = h k in let b = total_few f ks i h in omega arith
+
+pub rows_few : (ps : List Production) (i : ℕ) → rows_before ps i ≤ length ps
+rows_few ps i =
+    let a = total_few (has_at ps) (range_with_len 0 (length ps)) i (λ k. row_few (production_at ps k) (joins_at ps k)) in
+    let b = length-range_with_len 0 (length ps) in
+    omega arith

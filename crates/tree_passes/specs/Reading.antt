@@ -1,0 +1,112 @@
+-- What is read from columns at a place; behind the last place stands the least value.
+use Rattle.std.specs.Prelude.{ℕ, suc, ◌-◌, ◌^◌, Bool, false, ◌&&◌, ◌==◌, nat_lt, List, [], length, take, drop, min, None, slice_index_or, if◌then◌else◌}
+use Rattle.source_meaning.specs.declared.kinds.Kind.{Kind}
+use Rattle.source_meaning.specs.declared.kinds.Terminal.TheVariants.{Ident}
+use Rattle.source_meaning.specs.Lexemes.{Token}
+use Rattle.source_meaning.specs.Grammar.{Production, left}
+use Rattle.ast_rows.specs.NodeRows.{token_word}
+use Rattle.row_laws.specs.Emitted.{is_else, is_if}
+use Rattle.row_laws.specs.Levels.{level}
+use Rattle.row_laws.specs.Owned.{reads_count}
+use Rattle.row_laws.specs.Evals.{is_eval}
+use Rattle.row_laws.specs.Joins.{is_cell}
+use Rattle.row_laws.specs.Shifts.{is_call}
+use Rattle.row_laws.specs.Along.{has_row, reaches_back, token_by}
+use Rattle.row_laws.specs.Placed.{before_it, joins_by, type_named}
+use Rattle.row_laws.specs.Keyed.{is_made}
+use Rattle.tree_passes.specs.Numbers.{production_of}
+use Rattle.tree_passes.specs.Shapes.{shape_of, shape_word}
+use Rattle.tree_passes.specs.RowFaults.{kind_at}
+
+-- the production at a place
+abbrev pub line_at : List ℕ → ℕ → Production
+line_at numbers k = production_of (slice_index_or numbers k 0)
+
+-- The level of a place, from how many nonterminals the productions before each place open
+abbrev pub level_of : (kids numbers : List ℕ) → ℕ → ℕ
+level_of kids numbers k = min (level (suc (min (slice_index_or kids k 0) (2 ^ 40)) - k) (line_at numbers k)) 4294967295
+
+-- whether a cell's statement is an if and the next cell's an else, where the next cell stands where the part right behind ends
+abbrev pub meets_of : (numbers next : List ℕ) → ℕ → Bool
+meets_of numbers next k =
+    let j = slice_index_or next (suc k) 0 in
+    is_cell (line_at numbers k) && (is_if (line_at numbers (suc k)) && (is_cell (line_at numbers j) && is_else (line_at numbers (suc j))))
+
+-- whether an else joins
+abbrev pub joins_of : (numbers : List ℕ) → List Bool → (heads : List ℕ) → ℕ → Bool
+joins_of numbers meets heads k =
+    let head = slice_index_or heads (k - 1) 0 in
+    if k == 0 then false
+    else joins_by (line_at numbers k) (slice_index_or meets (k - 1) false) (if head == 0 then false else slice_index_or meets (head - 1) false)
+
+-- whether a production has a row
+abbrev pub makes_of : (numbers : List ℕ) → List Bool → ℕ → Bool
+makes_of numbers joins k = is_made (has_row (line_at numbers k) (slice_index_or joins k false))
+
+-- where the subtree of a row begins
+abbrev pub begin_of : (numbers : List ℕ) → List Bool → (heads : List ℕ) → ℕ → ℕ
+begin_of numbers joins heads k =
+    if reaches_back (line_at numbers k) (slice_index_or joins k false)
+    then (if is_else (line_at numbers k) then slice_index_or heads (before_it k) 0 else slice_index_or heads k 0)
+    else k
+
+-- the number of the token that a row may take from before it
+abbrev pub taken_of : (numbers reads heads : List ℕ) → ℕ → ℕ
+taken_of numbers reads heads k =
+    let head = slice_index_or heads (k - 1) 0 in
+    if k == 0 then 0
+    else (if is_call (left (line_at numbers k)) then slice_index_or reads (k - 1) 0 else (if head == 0 then 0 else slice_index_or reads head 0))
+
+-- where the row of a production stands in the order of closing, from how many rows are made and how many are closed before each place
+abbrev pub stands_of : (rows closed next : List ℕ) → ℕ → ℕ
+stands_of rows closed next i = slice_index_or rows (slice_index_or next i 0) 0 - suc (slice_index_or rows i 0 - slice_index_or closed (suc i) 0)
+
+-- a token of this number
+abbrev pub numbered : ℕ → Token
+numbered number = record { number = number; start = 0; terminal = Ident; lexeme = [] }
+
+-- the number of the token that a production reads first, from how many those before each place read
+abbrev pub read_of : (owned sums numbers : List ℕ) → ℕ → ℕ
+read_of owned sums numbers k = if reads_count (line_at numbers k) == 0 then 0 else slice_index_or owned (slice_index_or sums k 0) 0
+
+-- the bytes of a token
+abbrev pub lexeme_of : (text starts lengths : List ℕ) → ℕ → List ℕ
+lexeme_of text starts lengths token = take (slice_index_or lengths token 0) (drop (slice_index_or starts token 0) text)
+
+-- the kind of a production's row
+abbrev pub kind_of : (text starts lengths reads numbers next : List ℕ) → ℕ → Kind
+kind_of text starts lengths reads numbers next i =
+    shape_word (shape_of (line_at numbers i)) (lexeme_of text starts lengths (slice_index_or reads i 0))
+    (type_named (line_at numbers i) (line_at numbers (slice_index_or next (suc i) 0)) (line_at numbers (suc i)))
+
+-- the word of its own token; none for a statement that is a value
+abbrev pub word_of : (numbers reads : List ℕ) → List Bool → (heads : List ℕ) → ℕ → ℕ
+word_of numbers reads joins heads i = token_word (token_by (line_at numbers i) (numbered (slice_index_or reads i 0)) (taken_of numbers reads heads i) (slice_index_or joins i false) None)
+
+-- how many rows its subtree has
+abbrev pub size_of : (rows next numbers : List ℕ) → List Bool → (heads : List ℕ) → ℕ → ℕ
+size_of rows next numbers joins heads i = min (slice_index_or rows (slice_index_or next i 0) 0 - slice_index_or rows (begin_of numbers joins heads i) 0) 4294967295
+
+-- what the productions have, in an order, and behind them what the program has
+abbrev pub in_order : {X : Type 0} → List ℕ → (ℕ → X) → X → ℕ → X
+in_order order f whole k = if nat_lt k (length order) then f (slice_index_or order k 0) else whole
+
+-- the word of a row's own token, where a statement that is a value has that of the row before
+abbrev pub settled_of : List Kind → List ℕ → ℕ → ℕ
+settled_of kinds words k = if is_eval (kind_at kinds k) then slice_index_or words (k - 1) 0 else slice_index_or words k 0
+
+-- where a subtree begins
+abbrev pub low_of : List ℕ → ℕ → ℕ
+low_of sizes k = min (suc k - slice_index_or sizes k 0) 4294967295
+
+-- the parent of a row: the next one found, and the row itself where that lies behind all
+abbrev pub parent_of : List ℕ → ℕ → ℕ
+parent_of next k = if nat_lt (slice_index_or next k 0) (length next) then slice_index_or next k 0 else k
+
+-- the place of a row among its siblings; the root has none
+abbrev pub place_of : (parents ordinals : List ℕ) → ℕ → ℕ
+place_of parents ordinals k = if slice_index_or parents k 0 == k then 0 else slice_index_or ordinals k 0
+
+-- the number of a token's word
+abbrev pub number_in : ℕ → ℕ
+number_in word = if word == 4294967295 then 0 else word

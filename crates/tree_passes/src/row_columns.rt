@@ -1,0 +1,143 @@
+//! The columns of the rows, in the order of closing.
+ghost use Rattle.std.specs.Prelude.{◌≡◌, ◌+◌, ◌≤◌, ◌<◌, length, map, IfOk};
+ghost use Rattle.std.specs.List.{range_with_len};
+ghost use Rattle.source_meaning.specs.declared.kinds.Kind.TheVariants.{Program};
+ghost use Rattle.tree_passes.specs.Reading.{in_order, kind_of, size_of, word_of};
+
+use crate::columns::{begin_in, flag, number, production, sum, taken_in};
+use crate::lines::{kind, named, own_token};
+use crate::reading::lexeme;
+use par_passes::Passes;
+use source_meaning::Kind;
+use std::alloc::AllocError;
+
+// The kind of the row of the production at a place.
+fn kind_in(
+    text: &[u8],
+    starts: &[u32],
+    lengths: &[u32],
+    reads: &[u32],
+    numbers: &[u16],
+    next: &[u32],
+    place: u32,
+) -> Kind
+    ensures { result ≡ kind_of text.now starts.now lengths.now reads.now numbers.now next.now place }
+{
+    let at = place as usize;
+    let mine = production(numbers, at);
+    let far = production(numbers, number(next, at + 1) as usize);
+    let near = production(numbers, at + 1);
+    kind(
+        mine,
+        named(mine, far, near),
+        lexeme(text, starts, lengths, number(reads, at)),
+    )
+}
+
+/// The kinds of the rows.
+pub(crate) fn kinds_all(
+    crew: &impl Passes,
+    text: &[u8],
+    starts: &[u32],
+    lengths: &[u32],
+    reads: &[u32],
+    numbers: &[u16],
+    next: &[u32],
+    order: &[u32],
+) -> Result<Vec<Kind>, AllocError>
+    requires few { length order.now ≤ 536870913 }
+    ensures { IfOk result (λ v. v.items ≡ map (in_order order.now (kind_of text.now starts.now lengths.now reads.now numbers.now next.now) Program) (range_with_len 0 (length order.now + 1))) }
+{
+    let at = |k: u32| -> Kind
+        ensures { result ≡ in_order order.entry.now (kind_of text.entry.now starts.entry.now lengths.entry.now reads.entry.now numbers.entry.now next.entry.now) Program k }
+    {
+        let k = k as usize;
+        if k < order.len() {
+            kind_in(text, starts, lengths, reads, numbers, next, order[k])
+        } else {
+            Kind::Program
+        }
+    };
+    crew.tabulate(order.len() as u32 + 1, &at)
+}
+
+// How many rows the subtree of the row of the production at a place has.
+fn size_in(
+    rows: &[u64],
+    next: &[u32],
+    numbers: &[u16],
+    joins: &[bool],
+    heads: &[u32],
+    place: u32,
+) -> u32
+    ensures { result ≡ size_of rows.now next.now numbers.now joins.now heads.now place }
+{
+    let closed = sum(rows, number(next, place as usize) as usize);
+    let begun = sum(rows, begin_in(numbers, joins, heads, place) as usize);
+    closed.saturating_sub(begun).min(u64::from(u32::MAX)) as u32
+}
+
+/// The sizes of the rows' subtrees.
+pub(crate) fn sizes_all(
+    crew: &impl Passes,
+    rows: &[u64],
+    next: &[u32],
+    numbers: &[u16],
+    joins: &[bool],
+    heads: &[u32],
+    order: &[u32],
+) -> Result<Vec<u32>, AllocError>
+    requires few { length order.now ≤ 536870913 }
+    ensures { IfOk result (λ v. v.items ≡ map (in_order order.now (size_of rows.now next.now numbers.now joins.now heads.now) (length order.now + 1)) (range_with_len 0 (length order.now + 1))) }
+{
+    let whole = order.len() as u32 + 1;
+    let at = |k: u32| -> u32
+        ensures { result ≡ in_order order.entry.now (size_of rows.entry.now next.entry.now numbers.entry.now joins.entry.now heads.entry.now) whole k }
+    {
+        let k = k as usize;
+        if k < order.len() {
+            size_in(rows, next, numbers, joins, heads, order[k])
+        } else {
+            whole
+        }
+    };
+    crew.tabulate(whole, &at)
+}
+
+// The word of the own token of the row of the production at a place.
+fn word_in(numbers: &[u16], reads: &[u32], joins: &[bool], heads: &[u32], place: u32) -> u32
+    ensures { result ≡ word_of numbers.now reads.now joins.now heads.now place }
+{
+    let at = place as usize;
+    own_token(
+        production(numbers, at),
+        number(reads, at),
+        taken_in(numbers, reads, heads, at),
+        flag(joins, at),
+    )
+}
+
+/// The words of the rows' own tokens, but for those of statements that are a value.
+pub(crate) fn words_all(
+    crew: &impl Passes,
+    numbers: &[u16],
+    reads: &[u32],
+    joins: &[bool],
+    heads: &[u32],
+    order: &[u32],
+) -> Result<Vec<u32>, AllocError>
+    requires few { length order.now ≤ 536870913 }
+    ensures { IfOk result (λ v. v.items ≡ map (in_order order.now (word_of numbers.now reads.now joins.now heads.now) 4294967295) (range_with_len 0 (length order.now + 1))) }
+{
+    let at = |k: u32| -> u32
+        ensures { result ≡ in_order order.entry.now (word_of numbers.entry.now reads.entry.now joins.entry.now heads.entry.now) 4294967295 k }
+    {
+        let k = k as usize;
+        if k < order.len() {
+            word_in(numbers, reads, joins, heads, order[k])
+        } else {
+            u32::MAX
+        }
+    };
+    crew.tabulate(order.len() as u32 + 1, &at)
+}

@@ -1,0 +1,244 @@
+//! The rows of a syntax tree.
+ghost use Rattle.std.specs.Prelude.{◌≡◌, ℕ, ◌-◌, ◌/◌, ◌%◌, ◌<◌, ◌≤◌, ◌^◌, List, [], None, Some, Err, length, map, fold, min, IfOk};
+ghost use Rattle.source_meaning.specs.Lexemes.{lexical_fault, tokens as tokens_of};
+ghost use Rattle.source_meaning.specs.Grammar.{Prog, Production, Tree, ast, leaves, left_parse};
+ghost use Rattle.source_meaning.specs.Rows.{post};
+ghost use Rattle.source_meaning.specs.Scope.{earliest};
+ghost use Rattle.source_meaning.specs.Shape.{shape_faults};
+ghost use Rattle.ast_rows.specs.TokenRows.{row_of};
+ghost use Rattle.row_laws.specs.Marks.{Mark};
+ghost use Rattle.row_laws.specs.Standing.{marks_in};
+ghost use Rattle.row_laws.specs.Climbed.{row_by_lists};
+ghost use Rattle.tree_passes.specs.Columns.{numbers_of};
+ghost use Rattle.row_laws.specs.Faulted.{fault_keys as keys_of};
+ghost use Rattle.tree_passes.specs.LineColumns.{AreJoins, AreNear, AreNumbers, AreReads};
+ghost use Rattle.tree_passes.specs.TokensOf.{no_token};
+ghost use Rattle.tree_passes.specs.TreeColumns.{AreClosing, AreRowColumns, AreSmall, AreTreeColumns, IsLeastKey, IsParseOf};
+ghost use Rattle.tree_passes.specs.declared.fault.ShapeFault.TheVariants.{Diagnostic as Told};
+
+use crate::climbing::{fault_keys, lows_all, parents_all, places_all, tokens_all};
+use crate::fault::ShapeFault;
+use crate::joining::{joins_all, made_all, meets_all, row_sums};
+use crate::laid::lay;
+use crate::levels::near;
+use crate::ordering::order;
+use crate::reading::{owned_all, read_sums, reads_all};
+use crate::row_columns::{kinds_all, sizes_all, words_all};
+use ast_rows::{Rows, Tokens};
+use key_groups::ordinals;
+use nearest_all::{Nearest, all_nearest};
+use par_passes::Passes;
+use source_meaning::{Kind, Terminal};
+use std::alloc::AllocError;
+
+// Where an else joins.
+fn joins_known(
+    crew: &impl Passes,
+    numbers: &[u16],
+    next: &[u32],
+    heads: &[u32],
+) -> Result<Vec<bool>, AllocError>
+    requires few { length numbers.now ≤ 536870913 }
+    ensures { IfOk result (λ v. (ps : List Production) → AreNumbers ps numbers.now → AreNear ps next.now heads.now → AreJoins ps v.items) }
+{
+    let meets = meets_all(crew, numbers, next)?;
+    joins_all(crew, numbers, meets.as_slice(), heads)
+}
+
+// Where an else joins, how many rows are made before each place, and the order in which they are closed.
+#[derive(Drop)]
+struct Closing {
+    joins: Vec<bool>,
+    rows: Vec<u64>,
+    order: Vec<u32>,
+}
+
+fn closing_order(
+    crew: &impl Passes,
+    numbers: &[u16],
+    next: &[u32],
+    heads: &[u32],
+) -> Result<Closing, AllocError>
+    requires few { length numbers.now ≤ 536870913 }
+    requires parsed { (r : Tree Prog) × AreNumbers (left_parse r) numbers.now × AreNear (left_parse r) next.now heads.now }
+    ensures { IfOk result (λ v. (r : Tree Prog) → AreNumbers (left_parse r) numbers.now → AreNear (left_parse r) next.now heads.now → AreClosing (left_parse r) v.joins.items v.rows.items v.order.items) }
+{
+    let joins = joins_known(crew, numbers, next, heads)?;
+    let made = made_all(crew, numbers, joins.as_slice())?;
+    let rows = row_sums(crew, made.as_slice())?;
+    let order = order(crew, made.as_slice(), rows.as_slice(), next)?;
+    Ok(Closing { joins, rows, order })
+}
+
+// The number of the token that each production reads first.
+fn reads(crew: &impl Passes, kinds: &[Terminal], numbers: &[u16]) -> Result<Vec<u32>, AllocError>
+    requires few { length numbers.now ≤ 536870913 }
+    requires kinds { length kinds.now ≤ 4294967295 }
+    ensures { IfOk result (λ v. (r : Tree Prog) (text : List ℕ) → IsParseOf text numbers.now r → kinds.now ≡ map (λ t. t.terminal) (map row_of (tokens_of text)) → AreReads (left_parse r) (leaves r) v.items) }
+{
+    let owned = owned_all(crew, kinds)?;
+    let sums = read_sums(crew, numbers)?;
+    reads_all(crew, owned.as_slice(), sums.as_slice(), numbers)
+}
+
+// Kinds, sizes and own tokens of the rows.
+#[derive(Drop)]
+struct Columns {
+    kinds: Vec<Kind>,
+    sizes: Vec<u32>,
+    tokens: Vec<u32>,
+}
+
+// The columns of the rows in the order of closing.
+fn find_columns(
+    crew: &impl Passes,
+    text: &[u8],
+    tokens: &Tokens,
+    numbers: &[u16],
+    nearest: &Nearest,
+    closing: &Closing,
+    reads: &[u32],
+) -> Result<Columns, AllocError>
+    requires small { length text.now ≤ 2 ^ 24 }
+    requires few { length numbers.now ≤ 536870913 }
+    requires order { length closing.now.order.items ≤ 536870913 }
+    requires lexical { lexical_fault text.now ≡ None }
+    requires tokens { tokens.now ≡ map row_of (tokens_of text.now) }
+    ensures { IfOk result (λ v. (r : Tree Prog) → IsParseOf text.now numbers.now r → AreNear (left_parse r) nearest.now.next.items nearest.now.begin.items → AreClosing (left_parse r) closing.now.joins.items closing.now.rows.items closing.now.order.items → AreReads (left_parse r) (leaves r) reads.now → AreRowColumns (marks_in no_token (left_parse r) (leaves r) closing.now.order.items) v.kinds.items v.sizes.items v.tokens.items) }
+{
+    let (next, heads) = (nearest.next.as_slice(), nearest.begin.as_slice());
+    let (joins, order) = (closing.joins.as_slice(), closing.order.as_slice());
+    let kinds = kinds_all(
+        crew,
+        text,
+        tokens.starts(),
+        tokens.lengths(),
+        reads,
+        numbers,
+        next,
+        order,
+    )?;
+    let sizes = sizes_all(
+        crew,
+        closing.rows.as_slice(),
+        next,
+        numbers,
+        joins,
+        heads,
+        order,
+    )?;
+    let words = words_all(crew, numbers, reads, joins, heads, order)?;
+    let tokens = tokens_all(crew, kinds.as_slice(), words.as_slice())?;
+    Ok(Columns {
+        kinds,
+        sizes,
+        tokens,
+    })
+}
+
+// The rows of these columns.
+fn lay_rows(crew: &impl Passes, columns: Columns) -> Result<Rows, AllocError>
+    requires few { length columns.kinds.items ≤ 536870914 }
+    requires sizes { length columns.sizes.items ≡ length columns.kinds.items }
+    requires tokens { length columns.tokens.items ≡ length columns.kinds.items }
+    ensures { IfOk result (λ v. (ms : List Mark) → AreRowColumns ms columns.kinds.items columns.sizes.items columns.tokens.items → AreSmall ms → v ≡ map (row_by_lists ms) (numbers_of ms)) }
+{
+    let lows = lows_all(crew, columns.sizes.as_slice())?;
+    let nearest = all_nearest(crew.alloc(), lows.as_slice(), lows.as_slice())?;
+    let parents = parents_all(crew, nearest.next.as_slice())?;
+    let ordinals = ordinals(crew.alloc(), parents.as_slice(), parents.len())?;
+    let places = places_all(crew, parents.as_slice(), ordinals.as_slice())?;
+    Ok(lay(columns.kinds, parents, columns.tokens, places))
+}
+
+// The columns of the rows of the text's tree.
+fn tree_columns(
+    crew: &impl Passes,
+    text: &[u8],
+    tokens: &Tokens,
+    numbers: &[u16],
+) -> Result<Columns, AllocError>
+    requires small { length text.now ≤ 2 ^ 24 }
+    requires lexical { lexical_fault text.now ≡ None }
+    requires tokens { tokens.now ≡ map row_of (tokens_of text.now) }
+    requires parsed { (r : Tree Prog) × IsParseOf text.now numbers.now r }
+    ensures { IfOk result (λ v. (r : Tree Prog) → IsParseOf text.now numbers.now r → AreTreeColumns r v.kinds.items v.sizes.items v.tokens.items) }
+{
+    let nearest = near(crew, numbers)?;
+    let closing = closing_order(
+        crew,
+        numbers,
+        nearest.next.as_slice(),
+        nearest.begin.as_slice(),
+    )?;
+    let reads = reads(crew, tokens.kinds(), numbers)?;
+    find_columns(
+        crew,
+        text,
+        tokens,
+        numbers,
+        &nearest,
+        &closing,
+        reads.as_slice(),
+    )
+}
+
+// The least key of the rows' faults.
+fn least_key(crew: &impl Passes, columns: &Columns) -> Result<u64, AllocError>
+    requires few { length columns.now.kinds.items ≤ 536870914 }
+    requires sizes { length columns.now.sizes.items ≡ length columns.now.kinds.items }
+    ensures { IfOk result (λ key. (ms : List Mark) → AreRowColumns ms columns.now.kinds.items columns.now.sizes.items columns.now.tokens.items → AreSmall ms → key ≡ fold min (2 ^ 64 - 1) (keys_of ms)) }
+{
+    let keys = fault_keys(
+        crew,
+        columns.kinds.as_slice(),
+        columns.sizes.as_slice(),
+        columns.tokens.as_slice(),
+    )?;
+    crew.least(keys.as_slice())
+}
+
+// The fault that a key stands for.
+fn told(key: u64) -> ShapeFault
+    requires { key / 1024 < 2 ^ 32 }
+    ensures { result ≡ Told (key % 1024) (key / 1024) }
+{
+    ShapeFault::Diagnostic {
+        code: (key % 1024) as u16,
+        at: (key / 1024) as u32,
+    }
+}
+
+// The rows, or the fault that the key stands for.
+fn answer(crew: &impl Passes, columns: Columns, key: u64) -> Result<Rows, ShapeFault>
+    requires known { (r : Tree Prog) × AreTreeColumns r columns.kinds.items columns.sizes.items columns.tokens.items × IsLeastKey r key }
+    ensures ok { IfOk result (λ v. (r : Tree Prog) → AreTreeColumns r columns.kinds.items columns.sizes.items columns.tokens.items → IsLeastKey r key → (shape_faults (ast r) ≡ []) × (v ≡ post (ast r))) }
+    ensures fault { (code at : ℕ) → result ≡ Err (Told code at) → (r : Tree Prog) → IsLeastKey r key → earliest (shape_faults (ast r)) ≡ Some (record { at = at; code = code }) }
+{
+    if key == u64::MAX {
+        Ok(lay_rows(crew, columns)?)
+    } else {
+        Err(told(key))
+    }
+}
+
+/// The rows of the syntax tree of a text, from its tokens and its left parse: `post` of the tree where it has no fault of shape, else
+/// its earliest fault: 301 an else that no if stands right before, 302 an assignment whose left side is no name, 303 a ninth parameter, each
+/// at a token. The same for every plan, and the only other refusal is that memory is out.
+pub fn rows(
+    crew: &impl Passes,
+    text: &[u8],
+    tokens: &Tokens,
+    parse: &[u16],
+) -> Result<Rows, ShapeFault>
+    requires small { length text.now ≤ 2 ^ 24 }
+    requires lexical { lexical_fault text.now ≡ None }
+    requires tokens { tokens.now ≡ map row_of (tokens_of text.now) }
+    requires parsed { (r : Tree Prog) × IsParseOf text.now parse.now r }
+    ensures ok { IfOk result (λ v. (r : Tree Prog) → IsParseOf text.now parse.now r → (shape_faults (ast r) ≡ []) × (v ≡ post (ast r))) }
+    ensures fault { (code at : ℕ) → result ≡ Err (Told code at) → (r : Tree Prog) → IsParseOf text.now parse.now r → earliest (shape_faults (ast r)) ≡ Some (record { at = at; code = code }) }
+{
+    let columns = tree_columns(crew, text, tokens, parse)?;
+    let key = least_key(crew, &columns)?;
+    answer(crew, columns, key)
+}
