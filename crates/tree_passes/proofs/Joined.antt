@@ -1,5 +1,5 @@
 -- Which else joins which if, and which productions have a row, from columns.
-use Rattle.std.proofs.Common.{◌≡◌, ℕ, zero, suc, ◌+◌, ◌-◌, ◌<◌, ◌≤◌, Bool, true, false, List, [], ◌∷◌, length, map, get_or, refl, sym, ap, ◌∙◌, subst, arith}
+use Rattle.std.proofs.Common.{◌≡◌, ℕ, zero, suc, ◌+◌, ◌<◌, ◌≤◌, Bool, true, false, List, [], ◌∷◌, length, map, get_or, refl, sym, ap, ◌∙◌, arith}
 use Rattle.std.specs.Prelude.{if◌then◌else◌, ◌&&◌, ◌==◌}
 use Rattle.std.specs.List.{range_with_len}
 use Rattle.std.proofs.lemmas.Simd.{map-map}
@@ -13,7 +13,7 @@ use Rattle.row_laws.specs.Along.{has_row}
 use Rattle.row_laws.specs.Places.{production_at, open_at, next_low}
 use Rattle.row_laws.specs.Placed.{meets_at, joins_at, has_at, rows_before}
 use Rattle.row_laws.specs.Keyed.{is_made}
-use Rattle.tree_passes.specs.Reading.{line_at, meets_of, joins_of, makes_of}
+use Rattle.tree_passes.specs.Reading.{meets_of, joins_of, makes_of}
 use Rattle.tree_passes.specs.LineColumns.{AreNumbers, AreNear, AreMeets, AreHeads, AreJoins}
 use Rattle.tree_passes.specs.Orders.{AreMade}
 use Rattle.tree_passes.proofs.LevelColumn.{line_there, lines_many}

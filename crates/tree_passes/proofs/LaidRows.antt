@@ -1,11 +1,10 @@
 -- Parents and places of rows from their sizes, and the keys of their faults.
-use Rattle.std.proofs.Common.{◌≡◌, ℕ, zero, suc, ◌+◌, ◌-◌, ◌*◌, ◌/◌, ◌%◌, ◌^◌, ◌<◌, ◌≤◌, ◌⊎◌, inl, inr, Bool, true, false, All, List, [], ◌∷◌, length, map, min, get_or, Option, Some, None, refl, sym, ap, ◌∙◌, subst, arith}
-use Rattle.std.specs.Prelude.{if◌then◌else◌, nat_lt, nat_eq, ◌==◌, fold}
+use Rattle.std.proofs.Common.{◌≡◌, ℕ, zero, suc, ◌+◌, ◌-◌, ◌<◌, ◌≤◌, Bool, true, false, List, [], ◌∷◌, length, map, min, get_or, Option, Some, None, refl, sym, ap, ◌∙◌, subst, arith}
+use Rattle.std.specs.Prelude.{if◌then◌else◌, nat_lt, nat_eq, ◌==◌}
 use Rattle.std.specs.List.{range_with_len}
 use Rattle.std.proofs.lemmas.Bool.Decides.{nat_tests}
 use Rattle.std.proofs.lemmas.List.FromFn.{fill_by_all, length-map-range_with_len}
 use Rattle.source_meaning.specs.declared.kinds.Kind.{Kind}
-use Rattle.source_meaning.specs.declared.kinds.Kind.TheVariants.{IfElse, Assign, Param}
 use Rattle.ast_rows.specs.NodeRows.{token_word, token_of}
 use Rattle.key_groups.specs.Grouped.{number_at, equal_before}
 use Rattle.nearest_all.specs.Nearest.{nexts}
@@ -13,7 +12,7 @@ use Rattle.near_levels.proofs.Answered.{parents_answered}
 use Rattle.row_laws.specs.Marks.{Mark}
 use Rattle.row_laws.specs.Faults.{number_or}
 use Rattle.row_laws.specs.Faulted.{faults_at, fault_keys, key_of}
-use Rattle.row_laws.specs.Climbed.{no_mark, mark_at, settled_at, lows_from, parent_at, parents_by, place_at, count_before}
+use Rattle.row_laws.specs.Climbed.{no_mark, mark_at, settled_at, lows_from, parent_at, parents_by, place_at}
 use Rattle.row_laws.proofs.Climbed.{lows_many, lows_there}
 use Rattle.row_laws.proofs.Placed.{same_list}
 use Rattle.tree_passes.specs.Columns.{AreColumns, numbers_of}

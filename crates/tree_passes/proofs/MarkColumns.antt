@@ -1,33 +1,27 @@
 -- The columns of rows in the order of closing are those of their marks.
-use Rattle.std.proofs.Common.{◌≡◌, ℕ, zero, suc, ◌+◌, ◌-◌, ◌*◌, ◌^◌, ◌<◌, ◌≤◌, Bool, true, false, All, List, [], ◌∷◌, ◌++◌, length, map, min, get_or, take, drop, Option, Some, None, refl, sym, ap, ◌∙◌, subst, arith}
-use Rattle.std.specs.Prelude.{if◌then◌else◌, nat_lt, ◌==◌}
+use Rattle.std.proofs.Common.{◌≡◌, ℕ, zero, suc, ◌+◌, ◌<◌, ◌≤◌, Bool, true, false, All, List, [], ◌∷◌, ◌++◌, length, map, min, get_or, take, Some, None, refl, sym, ap, ◌∙◌, arith}
+use Rattle.std.specs.Prelude.{if◌then◌else◌, nat_lt}
 use Rattle.std.specs.List.{range_with_len}
 use Rattle.std.proofs.lemmas.Bool.Decides.{nat_tests}
 use Rattle.std.proofs.lemmas.List.{length-map, get_or-map, get_or_append_left, get_or_at}
 use Rattle.std.proofs.lemmas.List.FromFn.{length-range_with_len}
-use Rattle.source_meaning.specs.declared.kinds.Kind.{Kind}
 use Rattle.source_meaning.specs.declared.kinds.Kind.TheVariants.{Binary, Num, Unary, Program as ProgramKind}
 use Rattle.source_meaning.specs.declared.kinds.ValueType.{ValueType}
-use Rattle.source_meaning.specs.declared.kinds.Terminal.TheVariants.{Digits}
 use Rattle.source_meaning.specs.Lexemes.{Token, decimal_value}
-use Rattle.source_meaning.specs.Grammar.{Production, right, fn, ct_cmp, st_add, mt_mul, u_unop, p_num, call_args, call_none, stmt_else, stmt_eval}
-use Rattle.ast_rows.specs.NodeRows.{token_word}
+use Rattle.source_meaning.specs.Grammar.{Production, fn, ct_cmp, st_add, mt_mul, u_unop, p_num, call_args, call_none, stmt_else, stmt_eval}
 use Rattle.row_laws.specs.Marks.{Mark, mark}
-use Rattle.row_laws.specs.Emitted.{type_of}
-use Rattle.row_laws.specs.Levels.{kids, levels}
 use Rattle.row_laws.specs.Spans.{total}
 use Rattle.row_laws.specs.Owned.{reads_count}
-use Rattle.row_laws.specs.Along.{has_row, kind_by, token_by, first_of, as_cmp, as_add, as_mul, as_unop}
-use Rattle.row_laws.specs.Places.{production_at, open_at, next_low, sum_before, behind}
-use Rattle.row_laws.specs.Placed.{close_at, has_at, joins_at, rows_before, begin_at, before_it, head_at, size_at, reads_at, read_at, taken_at, type_named, named_at, row_at}
+use Rattle.row_laws.specs.Along.{kind_by, token_by, as_cmp, as_add, as_mul, as_unop}
+use Rattle.row_laws.specs.Places.{production_at}
+use Rattle.row_laws.specs.Placed.{has_at, joins_at, rows_before, type_named, row_at}
 use Rattle.row_laws.specs.Climbed.{no_mark, mark_at}
 use Rattle.row_laws.specs.Standing.{marks_in}
 use Rattle.row_laws.proofs.Standing.{row_few}
-use Rattle.tree_passes.specs.Numbers.{production_of}
 use Rattle.tree_passes.specs.Shapes.{shape_of, shape_word}
 use Rattle.tree_passes.specs.Spelled.{spelled}
 use Rattle.tree_passes.specs.Columns.{numbers_of}
-use Rattle.tree_passes.specs.Reading.{in_order, numbered}
+use Rattle.tree_passes.specs.Reading.{in_order}
 use Rattle.tree_passes.proofs.Ranges.{same_below}
 use Rattle.tree_passes.proofs.Followed.{is_fn}
 

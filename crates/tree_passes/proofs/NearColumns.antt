@@ -1,10 +1,9 @@
 -- The nearest levels of a left parse, from the two lists of all nearest levels.
-use Rattle.std.proofs.Common.{◌≡◌, ℕ, zero, suc, ◌+◌, ◌<◌, ◌≤◌, Bool, true, false, List, [], ◌∷◌, length, map, get_or, sym, ap, ◌∙◌, subst, arith}
-use Rattle.std.proofs.lemmas.List.{length-map, get_or-map}
+use Rattle.std.proofs.Common.{◌≡◌, ℕ, suc, ◌+◌, ◌≤◌, List, length, map, sym, ap, ◌∙◌, subst, arith}
+use Rattle.std.proofs.lemmas.List.{get_or-map}
 use Rattle.std.proofs.lemmas.List.FromFn.{length-map-range_with_len}
 use Rattle.source_meaning.specs.Grammar.{Prog, Tree, left_parse}
 use Rattle.row_laws.specs.Levels.{levels}
-use Rattle.row_laws.specs.Places.{behind}
 use Rattle.row_laws.proofs.LevelSums.{parse_levels}
 use Rattle.row_laws.specs.Opened.{level_by}
 use Rattle.nearest_all.specs.Nearest.{Nested, nexts, begins, place_or, next_le, number_at, odd_below}

@@ -1,5 +1,5 @@
 -- Where rows stand, from counts, and the order that follows.
-use Rattle.std.proofs.Common.{◌≡◌, ℕ, zero, suc, ◌+◌, ◌-◌, ◌^◌, ◌<◌, ◌≤◌, Bool, true, false, All, List, [], ◌∷◌, length, map, min, get_or, refl, sym, ap, ◌∙◌, subst, arith}
+use Rattle.std.proofs.Common.{◌≡◌, ℕ, zero, suc, ◌+◌, ◌-◌, ◌<◌, ◌≤◌, Bool, false, All, List, [], ◌∷◌, length, map, min, get_or, refl, sym, ap, ◌∙◌, subst, arith}
 use Rattle.std.specs.Prelude.{if◌then◌else◌, nat_eq, ◌==◌, filter}
 use Rattle.std.specs.List.{range_with_len}
 use Rattle.std.proofs.lemmas.Bool.Decides.{nat_tests}
@@ -16,7 +16,7 @@ use Rattle.row_laws.specs.Standing.{closings, closed_before, standing_at}
 use Rattle.row_laws.specs.Climbed.{count_before}
 use Rattle.row_laws.proofs.Keyed.{filter_all, range_below}
 use Rattle.row_laws.proofs.Counted.{stand_within, stand_distinct}
-use Rattle.scatter_rows.specs.Scattered.{AreDistinct, IsScattered}
+use Rattle.scatter_rows.specs.Scattered.{AreDistinct}
 use Rattle.tree_passes.specs.Reading.{stands_of}
 use Rattle.tree_passes.specs.Orders.{AreClosed, AreMade, IsOrder, IsPlaced}
 use Rattle.tree_passes.proofs.Passed.{closed_sums, makers_few, makers_there}

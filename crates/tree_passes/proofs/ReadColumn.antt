@@ -1,5 +1,5 @@
 -- The token that each production reads first, from sums of counts.
-use Rattle.std.proofs.Common.{◌≡◌, ℕ, suc, ◌+◌, ◌<◌, ◌≤◌, Bool, true, false, List, length, map, get_or, refl, sym, ap, ◌∙◌, arith}
+use Rattle.std.proofs.Common.{◌≡◌, ℕ, suc, ◌≤◌, Bool, true, false, List, length, map, get_or, refl, sym, ap, ◌∙◌, arith}
 use Rattle.std.specs.Prelude.{if◌then◌else◌, ◌==◌}
 use Rattle.std.specs.List.{range_with_len}
 use Rattle.source_meaning.specs.Lexemes.{Token, tokens}
@@ -8,14 +8,13 @@ use Rattle.word_monoid.specs.Folds.{prefixes}
 use Rattle.word_monoid.specs.Instances.{count}
 use Rattle.ast_rows.specs.TokenRows.{row_of}
 use Rattle.row_laws.specs.Owned.{reads_count}
-use Rattle.row_laws.specs.Along.{first_of}
 use Rattle.row_laws.specs.Places.{production_at}
-use Rattle.row_laws.specs.Placed.{reads_at, reads_from, read_at}
+use Rattle.row_laws.specs.Placed.{reads_at, reads_from}
 use Rattle.row_laws.proofs.OwnedPlaces.{number_first}
 use Rattle.tree_passes.specs.Numbers.{production_of}
-use Rattle.tree_passes.specs.TokensOf.{no_token, token_by_row, first_by, owned_numbers}
+use Rattle.tree_passes.specs.TokensOf.{no_token, token_by_row, owned_numbers}
 use Rattle.tree_passes.specs.LineColumns.{AreNumbers, AreReads}
-use Rattle.tree_passes.specs.Reading.{line_at, read_of}
+use Rattle.tree_passes.specs.Reading.{read_of}
 use Rattle.tree_passes.proofs.FirstTokens.{first_there}
 use Rattle.tree_passes.proofs.LevelColumn.{line_there, lines_many}
 use Rattle.tree_passes.proofs.Passed.{read_sums}

@@ -1,28 +1,25 @@
 -- What the passes make of each production is what its row has.
-use Rattle.std.proofs.Common.{◌≡◌, ℕ, zero, suc, ◌+◌, ◌-◌, ◌^◌, ◌<◌, ◌≤◌, Bool, true, false, List, [], ◌∷◌, length, map, min, get_or, take, drop, Option, Some, None, refl, sym, ap, ◌∙◌, subst, arith}
+use Rattle.std.proofs.Common.{◌≡◌, ℕ, zero, suc, ◌+◌, ◌-◌, ◌<◌, ◌≤◌, Bool, true, false, List, [], ◌∷◌, length, map, min, get_or, take, drop, None, refl, sym, ap, ◌∙◌, subst, arith}
 use Rattle.std.specs.Prelude.{if◌then◌else◌, nat_lt, ◌==◌}
 use Rattle.std.specs.List.{range_with_len}
 use Rattle.std.proofs.lemmas.Bool.Decides.{nat_tests}
-use Rattle.source_meaning.specs.declared.kinds.Terminal.{Terminal}
 use Rattle.source_meaning.specs.declared.kinds.Terminal.TheVariants.{Digits}
-use Rattle.source_meaning.specs.Lexemes.{Token, tokens, lexical_fault, decimal_value}
+use Rattle.source_meaning.specs.Lexemes.{Token, tokens, lexical_fault}
 use Rattle.source_meaning.specs.Grammar.{Prog, Production, right, fn, p_num, Tree, leaves, left_parse}
 use Rattle.ast_rows.specs.NodeRows.{token_word}
 use Rattle.ast_rows.specs.TokenRows.{TokenRow, row_of}
 use Rattle.row_laws.specs.Emitted.{is_early, is_else}
 use Rattle.row_laws.specs.Levels.{kids, levels}
 use Rattle.row_laws.specs.Owned.{reads_count, owned_terminals}
-use Rattle.row_laws.specs.Shifts.{first_read}
-use Rattle.row_laws.specs.Along.{kind_by, token_by, first_of, reaches_back}
+use Rattle.row_laws.specs.Along.{token_by, first_of, reaches_back}
 use Rattle.row_laws.specs.Places.{production_at, open_at, next_low, behind}
-use Rattle.row_laws.specs.Placed.{close_at, joins_at, rows_before, begin_at, before_it, head_at, size_at, reads_at, reads_from, read_at, taken_at, type_named, named_at, row_at}
+use Rattle.row_laws.specs.Placed.{close_at, joins_at, rows_before, begin_at, before_it, head_at, reads_at, reads_from, read_at, taken_at, type_named, named_at, row_at}
 use Rattle.row_laws.proofs.ClosesWithin.{closes_within}
 use Rattle.row_laws.proofs.OwnedPlaces.{number_first}
 use Rattle.row_laws.proofs.ReadTerminals.{terminals_read}
-use Rattle.tree_passes.specs.Numbers.{production_of}
 use Rattle.tree_passes.specs.Shapes.{shape_of, shape_word}
 use Rattle.tree_passes.specs.TokensOf.{no_token, no_token_row, token_by_row, first_by, owned_numbers}
-use Rattle.tree_passes.specs.Reading.{line_at, lexeme_of, kind_of, word_of, size_of, begin_of, taken_of, numbered, read_of}
+use Rattle.tree_passes.specs.Reading.{lexeme_of, kind_of, word_of, size_of, taken_of, numbered}
 use Rattle.tree_passes.specs.LineColumns.{AreNumbers, AreNear, AreHeads, AreJoins, AreReads}
 use Rattle.tree_passes.proofs.Followed.{is_fn, fn_followed}
 use Rattle.tree_passes.proofs.FirstTokens.{first_there}

@@ -1,6 +1,6 @@
 -- Own tokens of rows, settled, and that their numbers are small.
 use Rattle.std.proofs.lemmas.Bool.{cases_lt}
-use Rattle.std.proofs.Common.{◌≡◌, ℕ, zero, suc, ◌+◌, ◌-◌, ◌*◌, ◌^◌, ◌<◌, ◌≤◌, ◌⊎◌, inl, inr, Bool, true, false, All, List, [], ◌∷◌, length, map, get_or, Option, Some, None, refl, sym, ap, ◌∙◌, subst, arith}
+use Rattle.std.proofs.Common.{◌≡◌, ℕ, zero, suc, ◌+◌, ◌-◌, ◌<◌, ◌≤◌, ◌⊎◌, inl, inr, Bool, true, false, List, [], length, map, get_or, Option, Some, None, refl, sym, ap, ◌∙◌, subst, arith}
 use Rattle.std.specs.Prelude.{if◌then◌else◌}
 use Rattle.std.specs.List.{range_with_len}
 use Rattle.source_meaning.specs.declared.kinds.Kind.{Kind}
@@ -9,12 +9,11 @@ use Rattle.source_meaning.specs.Grammar.{Prog, Production, left, call_args, call
 use Rattle.ast_rows.specs.NodeRows.{token_word}
 use Rattle.row_laws.specs.Marks.{Mark}
 use Rattle.row_laws.specs.Evals.{is_eval}
-use Rattle.row_laws.specs.Shifts.{first_read, is_call}
+use Rattle.row_laws.specs.Shifts.{is_call}
 use Rattle.row_laws.specs.Along.{first_of, token_by}
 use Rattle.row_laws.specs.Places.{production_at}
 use Rattle.row_laws.specs.Placed.{joins_at, head_at, reads_at, read_at, read_behind, row_at, taken_at}
-use Rattle.row_laws.specs.Keyed.{makers}
-use Rattle.row_laws.specs.Standing.{marks_in, standing_at}
+use Rattle.row_laws.specs.Standing.{marks_in}
 use Rattle.row_laws.specs.Climbed.{mark_at, settled_at}
 use Rattle.row_laws.proofs.Apart.{first_settled, next_settled}
 use Rattle.row_laws.proofs.Counted.{counted_apart}

@@ -1,14 +1,13 @@
 -- What the least key of a tree's rows tells.
-use Rattle.std.proofs.Common.{◌≡◌, ℕ, zero, suc, ◌+◌, ◌-◌, ◌*◌, ◌/◌, ◌%◌, ◌^◌, ◌<◌, ◌≤◌, ◌⊎◌, inl, inr, Bool, true, false, List, [], ◌∷◌, length, map, min, get_or, Option, Some, None, refl, sym, ap, ◌∙◌, subst, arith}
+use Rattle.std.proofs.Common.{◌≡◌, ℕ, zero, suc, ◌+◌, ◌-◌, ◌/◌, ◌%◌, ◌^◌, ◌<◌, ◌≤◌, ◌⊎◌, inl, inr, Bool, true, false, List, [], ◌∷◌, length, map, min, Option, Some, None, sym, ◌∙◌, subst, arith}
 use Rattle.std.specs.Prelude.{fold}
 use Rattle.std.specs.List.{range_with_len}
 use Rattle.std.proofs.lemmas.Bool.{cases_lt}
-use Rattle.std.proofs.lemmas.List.FromFn.{length-map-range_with_len}
 use Rattle.source_meaning.specs.declared.kinds.Kind.{Kind}
 use Rattle.source_meaning.specs.declared.kinds.Kind.TheVariants.{IfElse, Assign, Param}
 use Rattle.source_meaning.specs.Grammar.{Prog, Tree, ast}
 use Rattle.source_meaning.specs.Rows.{Row, post}
-use Rattle.source_meaning.specs.Scope.{Fault, fault_if, earliest}
+use Rattle.source_meaning.specs.Scope.{fault_if, earliest}
 use Rattle.source_meaning.specs.Shape.{shape_faults}
 use Rattle.ast_rows.specs.NodeRows.{token_word}
 use Rattle.row_laws.specs.Marks.{Mark}
@@ -16,7 +15,7 @@ use Rattle.row_laws.specs.Faults.{number_or}
 use Rattle.row_laws.specs.Faulted.{Tells, fault_by, faults_at, fault_keys, key_of}
 use Rattle.row_laws.specs.Climbed.{mark_at, settled_at, row_by_lists}
 use Rattle.tree_passes.specs.Columns.{numbers_of}
-use Rattle.tree_passes.specs.TreeColumns.{AreRowColumns, AreSmall, AreTreeColumns, IsLeastKey, IsSmall}
+use Rattle.tree_passes.specs.TreeColumns.{AreSmall, AreTreeColumns, IsLeastKey, IsSmall}
 use Rattle.tree_passes.proofs.Ranges.{many_of}
 
 abbrev Fits : ℕ → Type 0

@@ -1,31 +1,26 @@
 -- The columns of a tree's rows, from what is known of its productions.
-use Rattle.std.proofs.Common.{◌≡◌, ℕ, suc, ◌+◌, ◌-◌, ◌*◌, ◌/◌, ◌^◌, ◌<◌, ◌≤◌, Bool, All, List, length, map, min, get_or, Option, Some, None, refl, sym, ap, ◌∙◌, subst, arith}
-use Rattle.std.specs.Prelude.{fold}
+use Rattle.std.proofs.Common.{◌≡◌, ℕ, ◌+◌, ◌<◌, ◌≤◌, Bool, All, List, length, map, Option, Some, None, refl, sym, ap, ◌∙◌, subst, arith}
 use Rattle.std.specs.List.{range_with_len}
 use Rattle.std.proofs.lemmas.List.{length-map}
 use Rattle.source_meaning.specs.declared.kinds.Kind.{Kind}
 use Rattle.source_meaning.specs.declared.kinds.Kind.TheVariants.{Program as ProgramKind}
 use Rattle.source_meaning.specs.declared.kinds.Terminal.{Terminal}
 use Rattle.source_meaning.specs.Lexemes.{Token, tokens, lexical_fault}
-use Rattle.source_meaning.specs.Grammar.{Prog, Production, Tree, ast, leaves, left_parse, number_of}
-use Rattle.source_meaning.specs.Rows.{post}
-use Rattle.source_meaning.specs.Shape.{shape_faults}
+use Rattle.source_meaning.specs.Grammar.{Prog, Production, Tree, leaves, left_parse, number_of}
 use Rattle.ast_rows.specs.TokenRows.{TokenRow, row_of}
 use Rattle.ast_rows.specs.NodeRows.{token_word}
 use Rattle.row_laws.specs.Marks.{Mark, mark}
 use Rattle.row_laws.specs.Faults.{number_or}
-use Rattle.row_laws.specs.Faulted.{Tells, fault_keys}
 use Rattle.row_laws.specs.Placed.{row_at}
 use Rattle.row_laws.specs.Standing.{marks_in}
 use Rattle.row_laws.specs.Climbed.{mark_at, settled_at, row_by_lists}
-use Rattle.row_laws.specs.Keyed.{makers}
 use Rattle.row_laws.proofs.Counted.{counted_rows, counted_faults}
 use Rattle.row_laws.proofs.Opened.{parse_short}
 use Rattle.tree_passes.specs.TokensOf.{no_token}
 use Rattle.tree_passes.specs.Columns.{numbers_of}
 use Rattle.tree_passes.specs.LineColumns.{AreNear, AreNumbers, AreReads}
 use Rattle.tree_passes.specs.Orders.{IsOrder}
-use Rattle.tree_passes.specs.TreeColumns.{AreClosing, AreRowColumns, AreTreeColumns, AreSmall, IsSmall, IsParseOf}
+use Rattle.tree_passes.specs.TreeColumns.{AreClosing, AreRowColumns, AreTreeColumns, IsSmall, IsParseOf}
 use Rattle.tree_passes.specs.Reading.{in_order, kind_of, size_of, word_of, settled_of}
 use Rattle.tree_passes.proofs.MarkColumns.{column_is, marks_many}
 use Rattle.tree_passes.proofs.RowValues.{kind_there, size_there, word_there}

@@ -1,7 +1,5 @@
-use Rattle.std.proofs.Common.{◌≡◌, ◌+◌, length, sym, ap, ◌∙◌, subst, arith}
+use Rattle.std.proofs.Common.{◌≡◌, ◌+◌, length, ap, ◌∙◌, arith}
 use Rattle.source_meaning.specs.declared.kinds.Kind.TheVariants.{Program}
-use Rattle.source_meaning.specs.Grammar.{left_parse, leaves}
-use Rattle.tree_passes.specs.LineColumns.{AreNear}
 use Rattle.tree_passes.specs.Reading.{in_order, kind_of}
 use Rattle.tree_passes.proofs.Ranges.{many_of}
 use Rattle.tree_passes.proofs.TreeRows.{columns_by}

@@ -1,6 +1,5 @@
-use Rattle.std.proofs.Common.{◌≡◌, length, map, sym, ap, ◌∙◌, subst, arith}
+use Rattle.std.proofs.Common.{◌≡◌, length, map, ap, ◌∙◌, arith}
 use Rattle.std.specs.List.{range_with_len}
-use Rattle.std.proofs.lemmas.List.FromFn.{length-map-range_with_len}
 use Rattle.key_groups.specs.Grouped.{number_at, equal_before}
 use Rattle.nearest_all.specs.Nearest.{nexts}
 use Rattle.row_laws.specs.Climbed.{parent_at}

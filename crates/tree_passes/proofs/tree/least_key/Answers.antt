@@ -1,6 +1,5 @@
-use Rattle.std.proofs.Common.{◌≡◌, ◌-◌, ◌^◌, min, length, map, sym, ap, ◌∙◌, subst, arith}
+use Rattle.std.proofs.Common.{◌-◌, ◌^◌, min, ap, ◌∙◌}
 use Rattle.std.specs.Prelude.{fold}
-use Rattle.std.specs.List.{range_with_len}
 use Rattle.par_passes.proofs.Calling.{if_ok}
 use Rattle.tree_passes.proofs.LaidRows.{keys_by}
 use Rattle.tree_passes.proofs.tree.least_key.Goals as goal

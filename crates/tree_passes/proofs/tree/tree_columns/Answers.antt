@@ -1,8 +1,5 @@
-use Rattle.std.proofs.Common.{◌≡◌, length, sym, ap, ◌∙◌, subst, arith}
-use Rattle.std.proofs.lemmas.List.{length-map}
-use Rattle.source_meaning.specs.Lexemes.{tokens}
+use Rattle.std.proofs.Common.{sym, subst}
 use Rattle.source_meaning.specs.Grammar.{left_parse, leaves}
-use Rattle.ast_rows.specs.TokenRows.{row_of}
 use Rattle.par_passes.proofs.Calling.{if_ok}
 use Rattle.tree_passes.specs.LineColumns.{AreReads}
 use Rattle.tree_passes.proofs.TreeRows.{kinds_few, near_slices, numbers_few, order_few, terminals_are, tree_columns_are}
