@@ -11,7 +11,9 @@ use Rattle.chunk_seats.specs.Tallies.{times, OnceBelow}
 use Rattle.word_monoid.proofs.Folds.{all_at}
 use Rattle.scan_lookback.specs.Placed.{Placed}
 use Rattle.scan_lookback.proofs.Cutting.{chunks_all}
+use Rattle.par_passes.specs.Passes.{Gives}
 use Rattle.par_passes.specs.Slots.{list_in, AreLevel}
+use Rattle.par_passes.proofs.Giving.{gives_none, gives_before}
 
 module _ {X : Type 0} where
   take_over : (l r : List X) (m : ℕ) → length l ≤ m → take m (l ++ r) ≡ l ++ take (m - length l) r
@@ -181,21 +183,23 @@ module _ {U : Type 0} where
           ap length (in_full (get_or slots c None) t.0 t.1) ∙ t.2;
     }
 
-    pub slots_parts : (part : ℕ → List U) → All (λ (p : ℕ × Vec U). p.1.items ≡ part p.0) pairs → flat slots ≡ flat_map part (range_with_len 0 count)
-    slots_parts part each =
-        listed slots 0 (λ c h.
-        let t = in_slot (λ k x. x.items ≡ part k) each c (omega (arith, placed.wide)) in
-        let z : c ≡ 0 + c = omega arith in
-        in_full (get_or slots c None) t.0 t.1 ∙ (t.2 ∙ ap part z))
-        ∙ ap (λ (m : ℕ). flat_map part (range_with_len 0 m)) placed.wide
+    -- these lists in order, of each of which Q holds at its number
+    pub slots_lists : (Q : ℕ → Vec U → Type 0) → All (λ (p : ℕ × Vec U). Q p.0 p.1) pairs → (lists : List (Vec U)) × Gives Q (range_with_len 0 count) lists × (flat slots ≡ flat_map (λ v. v.items) lists)
+    slots_lists Q each =
+        subst (λ n. (lists : List (Vec U)) × Gives Q (range_with_len 0 n) lists × (flat slots ≡ flat_map (λ v. v.items) lists)) placed.wide
+        (listed slots 0 (λ c h. let z : c ≡ 0 + c = omega arith in let t = in_slot Q each c (omega (arith, placed.wide)) in (t.0, t.1, subst (λ k. Q k t.0) z t.2)))
       where
-        listed : (xs : List (Option (Vec U))) (a : ℕ) → ((c : ℕ) → c < length xs → list_in (get_or xs c None) ≡ part (a + c)) → flat xs ≡ flat_map part (range_with_len a (length xs))
-        listed [] a at = refl
+        listed : (xs : List (Option (Vec U))) (a : ℕ) → ((c : ℕ) → c < length xs → (x : Vec U) × (get_or xs c None ≡ Some x) × Q (a + c) x)
+            → (lists : List (Vec U)) × Gives Q (range_with_len a (length xs)) lists × (flat xs ≡ flat_map (λ v. v.items) lists)
+        listed [] a at = ([], gives_none Q, refl)
         listed (x ∷ xs) a at =
             let z : a + 0 ≡ a = omega arith in
-            let here : list_in x ≡ part a = at 0 (omega arith) ∙ ap part z in
-            let more = listed xs (a + 1) (λ c h. let e : a + suc c ≡ a + 1 + c = omega arith in at (suc c) (omega arith) ∙ ap part e) in
-            ap (λ (l : List U). l ++ flat xs) here ∙ ap (λ (l : List U). part a ++ l) more
+            let here = at 0 (omega arith) in
+            let more = listed xs (a + 1) (λ c h. let e : a + suc c ≡ a + 1 + c = omega arith in let t = at (suc c) (omega arith) in (t.0, t.1, subst (λ k. Q k t.0) e t.2)) in (
+              here.0 ∷ more.0,
+              gives_before Q a here.0 (range_with_len (a + 1) (length xs)) more.0 (subst (λ k. Q k here.0) z here.2) more.1,
+              ap (λ (l : List U). l ++ flat xs) (in_full x here.0 here.1) ∙ ap (λ (l : List U). here.0.items ++ l) more.2,
+            )
 
 -- the chunks that were drawn are each chunk once
 pub drawn_once : (claimed drawn : List ℕ) (counter chunks count : ℕ) → OnceBelow (min counter chunks) (λ n. times n claimed) → chunks ≤ counter → chunks ≡ count → claimed ≡ drawn → OnceBelow count (λ n. times n drawn)

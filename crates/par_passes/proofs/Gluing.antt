@@ -1,12 +1,14 @@
 -- Parts that come back are glued in order.
-use Rattle.std.proofs.Common.{◌≡◌, ℕ, suc, ◌+◌, ◌*◌, ◌<◌, ◌≤◌, List, ◌++◌, length, flat_map, sym, ap, ◌∙◌, arith, length-append, add-one}
+use Rattle.std.proofs.Common.{◌≡◌, ℕ, suc, ◌+◌, ◌*◌, ◌<◌, ◌≤◌, List, [], ◌∷◌, ◌++◌, length, flat_map, sym, ap, ◌∙◌, subst, arith, length-append, append_assoc, add-one}
 use Rattle.std.specs.List.{range_with_len}
 use Rattle.std.proofs.lemmas.List.{append-nil}
 use denote.RawPtr.{Ptr, ◌+ₚ◌}
 use Rattle.list_parts.specs.declared.part.Part.{Part}
 use Rattle.list_parts.specs.Parts.{part_items, part_start, Follows, Chain}
-use Rattle.par_passes.specs.Dealt.{InPlace}
-use Rattle.scan_lookback.proofs.Lists.{flat_map_more}
+use Rattle.par_passes.specs.Passes.{Gives}
+use Rattle.par_passes.specs.Dealt.{InPlace, Joins}
+use Rattle.par_passes.proofs.Giving.{gives_none, gives_before, gives_next}
+use Rattle.par_passes.proofs.Marking.{range_next}
 use Rattle.list_parts.proofs.Chains.{total, chain_at, chain_first, total_next, total_most, get_below}
 
 -- where each part that came back lies where the part that was dealt lay
@@ -15,15 +17,19 @@ module _ {U : Type 0} (s : ℕ) (parts : List (Part U)) (good : ℕ → Part U �
   pub record Glued (k : ℕ) (whole : Part U) : Type 0 where
     pub place : (start : Ptr) → Chain s start parts → part_start whole ≡ start
     pub wide : length (part_items whole) ≡ total k parts
-    pub values : (filled : ℕ → List U) → ((c : ℕ) (x : Part U) → c < length parts → good c x → part_items x ≡ filled c) → part_items whole ≡ flat_map filled (range_with_len 0 k)
+    pub values : Joins good k whole
 
   module _ (in_place : InPlace parts good) where
     pub one : (x : Part U) → 0 < length parts → good 0 x → Glued 1 x
     one x some fine = let old = get_below parts 0 some in let same = in_place 0 old.0 x old.1 fine in record {
       place = λ start h. same.start ∙ chain_first s start parts old.0 h old.1;
       wide = let count = same.count in omega (arith, total_next parts 0 old.0 old.1);
-      values = λ filled each. each 0 x some fine ∙ sym (append-nil (filled 0));
+      values = (x ∷ [], gives_before good 0 x [] [] fine (gives_none good), sym (append-nil (part_items x)));
     }
+
+    flat_last : (back : List (Part U)) (x : Part U) → flat_map part_items (back ++ x ∷ []) ≡ flat_map part_items back ++ part_items x
+    flat_last [] x = append-nil (part_items x)
+    flat_last (b ∷ back) x = ap (λ l. part_items b ++ l) (flat_last back x) ∙ sym (append_assoc (part_items b) (flat_map part_items back) (part_items x))
 
     module _ (k : ℕ) (whole part : Part U) (more : k < length parts) (fine : good k part) (glued : Glued k whole) where
       pub behind : (start : Ptr) → Chain s start parts → Follows s whole part
@@ -41,5 +47,11 @@ module _ {U : Type 0} (s : ℕ) (parts : List (Part U)) (good : ℕ → Part U �
       next g start items = record {
         place = λ p h. start ∙ glued.place p h;
         wide = ap length items ∙ length-append (part_items whole) (part_items part) ∙ both ∙ ap (λ j. total j parts) (sym (add-one k));
-        values = λ filled each. items ∙ (λ i. glued.values filled each i ++ each k part more fine i) ∙ ap (λ j. flat_map filled (range_with_len 0 k) ++ filled j) (let here : k ≡ 0 + k = omega arith in here) ∙ sym (flat_map_more filled 0 k);
+        values =
+            let back = glued.values.0 in
+            let here : k ≡ 0 + k = omega arith in (
+              back ++ part ∷ [],
+              subst (λ l. Gives good l (back ++ part ∷ [])) (ap (λ j. range_with_len 0 k ++ j ∷ []) here ∙ sym (range_next 0 k)) (gives_next good (range_with_len 0 k) back k part glued.values.1 fine),
+              items ∙ ap (λ l. l ++ part_items part) glued.values.2 ∙ sym (flat_last back part),
+            );
       }

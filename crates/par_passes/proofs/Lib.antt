@@ -1,5 +1,6 @@
 pub mod Together
 pub mod Marking
+pub mod Giving
 pub mod Working
 pub mod Lowest
 pub mod Calling

@@ -40,6 +40,10 @@ module _ {X : Type 0} where
   pub length_chunk : (size : ℕ) (xs : List X) (c : ℕ) → length (chunk_of size xs c) ≡ min size (length xs - c * size)
   length_chunk size xs c = length-take size (drop (c * size) xs) ∙ ap (min size) (length-drop (c * size) xs)
 
+-- chunks of lists of one length are of one length
+pub as_wide : {X Y : Type 0} (size : ℕ) (xs : List X) (ys : List Y) (c : ℕ) (part : List Y) → length ys ≡ length xs → part ≡ chunk_of size ys c → length (chunk_of size xs c) ≡ length part
+as_wide size xs ys c part same is = length_chunk size xs c ∙ (ap (λ (n : ℕ). min size (n - c * size)) (sym same) ∙ sym (ap length is ∙ length_chunk size ys c))
+
 pub map_chunk : {X Y : Type 0} (g : X → Y) (size : ℕ) (xs : List X) (c : ℕ) → chunk_of size (map g xs) c ≡ map g (chunk_of size xs c)
 map_chunk g size xs c = ap (take size) (drop-map g (c * size) xs) ∙ take-map g size (drop (c * size) xs)
 
@@ -124,16 +128,6 @@ of_number P from to k least less all =
     let n : length (range_with_len from (to - from)) ≡ to - from = length-range_with_len from (to - from) in
     let back : from + (k - from) ≡ k = omega arith in
     subst P (get_or-range_with_len from (to - from) (k - from) 0 less' ∙ back) (all (k - from) 0 (omega arith))
-
--- one number more
-pub number_more : {X : Type 0} (g : ℕ → X) (from k : ℕ) (r : X) (old out more : List X) → from ≤ k → r ≡ g k → out ≡ old ++ map g (range_with_len from (k - from)) → more ≡ out ++ r ∷ [] → more ≡ old ++ map g (range_with_len from (k + 1 - from))
-number_more {X} g from k r old out more least is so_far added =
-    let next : k - from + 1 ≡ k + 1 - from = omega arith in
-    added
-    ∙ (ap (λ (l : List X). l ++ r ∷ []) so_far
-    ∙ (append_assoc old (map g (range_with_len from (k - from))) (r ∷ [])
-    ∙ (ap (λ (y : X). old ++ (map g (range_with_len from (k - from)) ++ y ∷ [])) is
-    ∙ ap (λ (l : List X). old ++ l) (sym (map-range_with_len_more g from (k - from) k (omega arith)) ∙ ap (λ (m : ℕ). map g (range_with_len from m)) next))))
 
 -- a chunk of the numbers below n, by its ends
 pub numbers_chunk : (size n c from to : ℕ) → from ≡ min (c * size) n → to ≡ from + min (n - from) size → chunk_of size (range_with_len 0 n) c ≡ range_with_len from (to - from)

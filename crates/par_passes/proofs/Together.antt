@@ -1,7 +1,7 @@
 -- What is made of the chunks, one behind the other, is what is made of the whole list.
 use Rattle.std.proofs.Common.{Bool, filter, ◌∷◌, Result, Ok, Err, ◌≡◌, ℕ, zero, suc, ◌+◌, ◌*◌, ◌<◌, ◌≤◌, List, [], ◌++◌, length, take, drop, map, All, refl, sym, ap, ◌∙◌, subst, arith, add-one, suc-mul, take-add}
 use Rattle.std.specs.Prelude.{IfOk}
-use Rattle.par_passes.specs.Passes.{Maps, marked}
+use Rattle.par_passes.specs.Passes.{marked}
 use Rattle.std.specs.List.{range_with_len, flat_map, zip}
 use Rattle.std.proofs.lemmas.List.{take_all, map-append}
 use Rattle.std.proofs.lemmas.List.Elements.{filter-append, All-take, All-drop}
@@ -28,9 +28,6 @@ module _ {X Y : Type 0} (h : List X → List Y) (none : h [] ≡ []) (parts : (x
       let more : length items ≤ count * size = subst (λ (n : ℕ). length items ≤ n * size) (sym is) all in
       first_chunks count ∙ ap h (take_all (count * size) items more)
 
-pub map_together : {X Y : Type 0} (g : X → Y) (size : ℕ) (items : List X) → 0 < size → (count : ℕ) → count ≡ chunk_count size (length items) → flat_map (λ k. map g (chunk_of size items k)) (range_with_len 0 count) ≡ map g items
-map_together g size items = together (map g) refl (map-append g) size items
-
 pub all_chunk : {X : Type 0} (P : X → Type 0) (size : ℕ) (items : List X) (c : ℕ) → All P items → All P (chunk_of size items c)
 all_chunk P size items c all = All-take P size (drop (c * size) items) (All-drop P (c * size) items all)
 
@@ -39,36 +36,9 @@ pub if_ok : {A E : Type 0} {P Q : A → Type 0} (r : Result A E) → IfOk r P �
 if_ok (Ok x) p more = more x p
 if_ok (Err e) p more = tt
 
--- the values of one chunk more
-pub chunk_more : {T U : Type 0} (g : T → U) (size c : ℕ) (items : List T) (out more : List U) → out ≡ map g (take (c * size) items) → more ≡ out ++ map g (chunk_of size items c) → more ≡ map g (take ((c + 1) * size) items)
-chunk_more {U} g size c items out more so_far added =
-    let step : c * size + size ≡ (c + 1) * size = sym (suc-mul c size) ∙ ap (λ (k : ℕ). k * size) (sym (add-one c)) in
-    added
-    ∙ (ap (λ (l : List U). l ++ map g (chunk_of size items c)) so_far
-    ∙ (sym (map-append g (take (c * size) items) (chunk_of size items c))
-    ∙ (sym (ap (map g) (take-add (c * size) size items)) ∙ ap (λ (k : ℕ). map g (take k items)) step)))
-
--- the same of the calls that compute them
-pub maps_more : {T U : Type 0} (post : T → U → Type 0) (size c : ℕ) (items part : List T) (out more : List U) → part ≡ chunk_of size items c
-    → ((g : T → U) → All (λ x. (r : U) → post x r → r ≡ g x) items → out ≡ map g (take (c * size) items))
-    → ((g : T → U) → All (λ x. (r : U) → post x r → r ≡ g x) part → more ≡ out ++ map g part)
-    → (g : T → U) → All (λ x. (r : U) → post x r → r ≡ g x) items → more ≡ map g (take ((c + 1) * size) items)
-maps_more {T} {U} post size c items part out more is so_far added g computes =
-    chunk_more g size c items out more (so_far g computes)
-    (added g (subst (All (λ (x : T). (r : U) → post x r → r ≡ g x)) (sym is) (all_chunk (λ (x : T). (r : U) → post x r → r ≡ g x) size items c computes))
-    ∙ ap (λ (l : List T). out ++ map g l) is)
-
 -- the chunks are the whole list
 pub whole_list : {T : Type 0} (size c : ℕ) (items : List T) → 0 < size → c ≡ chunk_count size (length items) → take (c * size) items ≡ items
 whole_list size c items pos is = take_all (c * size) items (subst (λ (n : ℕ). length items ≤ n * size) (sym is) (chunks_all (length items) size pos))
-
--- the values of the whole list, from those of each chunk
-pub maps_all : {T U : Type 0} (post : T → U → Type 0) (size : ℕ) (items : List T) (count : ℕ) (out : List U) → 0 < size → count ≡ chunk_count size (length items)
-    → ((g : T → U) → ((c : ℕ) (list : List U) → c < count → Maps post (chunk_of size items c) list → list ≡ map g (chunk_of size items c)) → out ≡ flat_map (λ c. map g (chunk_of size items c)) (range_with_len 0 count))
-    → Maps post items out
-maps_all post size items count out pos is whole = λ g computes.
-    whole g (λ c list near gave. gave g (all_chunk (λ x. (r : _) → post x r → r ≡ g x) size items c computes))
-    ∙ map_together g size items pos count is
 
 zip_take : {X Y : Type 0} (n : ℕ) (xs : List X) (ys : List Y) → take n (zip xs ys) ≡ zip (take n xs) (take n ys)
 zip_take zero xs ys = refl

@@ -4,6 +4,10 @@ use Rattle.std.specs.Global.{Vec}
 use Rattle.atomic_table.specs.Seated.{TableId}
 use Rattle.par_passes.specs.declared.crew.Made.{Made}
 
+-- it may be called with the number of each chunk
+abbrev pub Callable : ℕ → (ℕ → Type 0) → Type 0
+Callable chunks pre = (c : ℕ) → c < chunks → pre c
+
 -- the list is what a call at the number of a chunk gave
 abbrev pub Gave : {U E : Type 0} → ℕ → (ℕ → Result (Vec U) E → Type 0) → ℕ × Vec U → Type 0
 Gave chunks post p = (p.0 < chunks) × post p.0 (Ok p.1)

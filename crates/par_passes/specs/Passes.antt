@@ -1,6 +1,11 @@
 -- What the passes give.
-use Rattle.std.specs.Prelude.{◌≡◌, Bool, List, All, map, filter}
+use Rattle.std.specs.Prelude.{◌≡◌, ℕ, Bool, List, All, length, map, filter, slice_get, Some}
 use Rattle.std.specs.List.{zip}
+
+-- as many values as items, each of them one that a call at the item of its place gave
+pub record Gives {T U : Type 0} (post : T → U → Type 0) (items : List T) (out : List U) : Type 0 where
+  pub as_many : length out ≡ length items
+  pub each : (k : ℕ) (x : T) (y : U) → slice_get items k ≡ Some x → slice_get out k ≡ Some y → post x y
 
 -- the list is that of the values of each function that the calls at the items compute
 abbrev pub Maps : {T U : Type 0} → (T → U → Type 0) → List T → List U → Type 0

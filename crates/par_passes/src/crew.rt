@@ -6,10 +6,11 @@ ghost use Rattle.std.specs.Result.{OnOk};
 ghost use Rattle.std.specs.Thread.{IsSync};
 ghost use Rattle.chunk_seats.specs.Chunks.{chunk_count};
 ghost use Rattle.chunk_seats.specs.Claims.{fresh};
-ghost use Rattle.par_passes.specs.Crews.{Gave, Makes};
+ghost use Rattle.par_passes.specs.Crews.{Callable, Gave, Makes};
+ghost use Rattle.par_passes.specs.Passes.{Gives};
 
 use crate::chunk::count_chunks;
-use crate::fill::{blank_list, chunks_each, fill};
+use crate::fill::{chunks_each, copies, fill};
 use chunk_seats::{ClaimBoard, Gate, Plan, Seat};
 use scan_lookback::{assemble, by_number};
 use std::alloc::{AllocError, Global};
@@ -40,7 +41,7 @@ fn work<U: Copy, F: Fn(u64) -> Result<Vec<U>, AllocError>, G: Gate>(
 ) -> Result<Vec<(u64, Vec<U>)>, AllocError>
     requires board { mine.old.board ≡ claims.now.board }
     requires unspent { 0 < mine.old.view.share }
-    requires callable { F.IsAlwaysCallable make.now }
+    requires callable { Callable claims.now.chunks (F.pre make.now) }
     ensures board { mine.new.board ≡ mine.old.board }
     ensures weight { mine.new.view.weight ≡ mine.old.view.weight }
     ensures spent { OnOk result (mine.new.view.share ≡ 0) }
@@ -101,7 +102,7 @@ fn run<
     requires board { mine.board ≡ claims.now.board }
     requires new { mine.view ≡ fresh workers }
     requires workers { (1 ≤ workers) × (first + workers ≤ 64) }
-    requires callable { F.IsAlwaysCallable make.now }
+    requires callable { Callable claims.now.chunks (F.pre make.now) }
     ensures { IfOk result (λ r. Makes claims.now.chunks (F.post make.now) claims.now.board workers r) }
 {
     if workers == 1 {
@@ -115,11 +116,11 @@ fn run<
     let (one, two) = join(
         rt,
         move || -> Result<Made<U>, AllocError>
-            requires { IsSync R.row × (mine.board ≡ claims.now.board) × (mine.view ≡ fresh rest) × (1 ≤ rest) × (first + rest ≤ 64) × F.IsAlwaysCallable make.now }
+            requires { IsSync R.row × (mine.board ≡ claims.now.board) × (mine.view ≡ fresh rest) × (1 ≤ rest) × (first + rest ≤ 64) × Callable claims.now.chunks (F.pre make.now) }
             ensures { IfOk result (λ r. Makes claims.entry.now.chunks (F.post make.entry.now) claims.entry.now.board rest r) }
         { run(rt, alloc, claims, mine, gate, first, rest, make) },
         move || -> Result<Made<U>, AllocError>
-            requires { IsSync R.row × (theirs.board ≡ claims.now.board) × (theirs.view ≡ fresh half) × (1 ≤ half) × (after + half ≤ 64) × F.IsAlwaysCallable make.now }
+            requires { IsSync R.row × (theirs.board ≡ claims.now.board) × (theirs.view ≡ fresh half) × (1 ≤ half) × (after + half ≤ 64) × Callable claims.now.chunks (F.pre make.now) }
             ensures { IfOk result (λ r. Makes claims.entry.now.chunks (F.post make.entry.now) claims.entry.now.board half r) }
         { run(rt, alloc, claims, theirs, gate, after, half, make) },
     );
@@ -142,7 +143,7 @@ pub(crate) fn by_chunks<
     make: &F,
 ) -> Result<Vec<U>, AllocError>
     requires count { count < 2 ^ 62 }
-    requires callable { F.IsAlwaysCallable make.now }
+    requires callable { All (F.pre make.now) (range_with_len 0 count) }
     ensures { IfOk result (λ v. (part : ℕ → List U) → ((c : ℕ) (x : Vec U) → c < count → F.post make.now c (Ok x) → x.items ≡ part c) → v.items ≡ flat_map part (range_with_len 0 count)) }
 {
     let workers = (plan.workers as usize).min(count.max(1)) as u32;
@@ -164,11 +165,11 @@ fn first_worker<U: Copy, F: Fn(u64) -> Result<Vec<U>, AllocError>, G: Gate>(
 ) -> Result<Begun<U>, AllocError>
     requires board { mine.board ≡ claims.now.board }
     requires new { mine.view ≡ fresh 1 }
-    requires callable { F.IsAlwaysCallable make.now }
+    requires callable { Callable claims.now.chunks (F.pre make.now) }
     ensures made { IfOk result (λ r. Makes claims.now.chunks (F.post make.now) claims.now.board 1 r.made) }
     ensures list { IfOk result (λ r. length r.list.items ≡ len) }
 {
-    let list = blank_list(alloc, blank, len)?;
+    let list = copies(alloc, blank, len)?;
     let all = work(alloc, claims, &mut mine, gate, 0, make)?;
     let made = Made { mine, all };
     Ok(Begun { made, list })
@@ -194,7 +195,7 @@ fn begin<
     requires board { mine.board ≡ claims.now.board }
     requires new { mine.view ≡ fresh workers }
     requires workers { (1 ≤ workers) × (workers ≤ 64) }
-    requires callable { F.IsAlwaysCallable make.now }
+    requires callable { Callable claims.now.chunks (F.pre make.now) }
     ensures made { IfOk result (λ r. Makes claims.now.chunks (F.post make.now) claims.now.board workers r.made) }
     ensures list { IfOk result (λ r. length r.list.items ≡ len) }
 {
@@ -206,12 +207,12 @@ fn begin<
     let (one, two) = join(
         rt,
         move || -> Result<Begun<U>, AllocError>
-            requires { (mine.board ≡ claims.now.board) × (mine.view ≡ fresh 1) × F.IsAlwaysCallable make.now }
+            requires { (mine.board ≡ claims.now.board) × (mine.view ≡ fresh 1) × Callable claims.now.chunks (F.pre make.now) }
             ensures made { IfOk result (λ r. Makes claims.entry.now.chunks (F.post make.entry.now) claims.entry.now.board 1 r.made) }
             ensures list { IfOk result (λ r. length r.list.items ≡ len) }
         { first_worker(alloc, claims, mine, gate, blank, len, make) },
         move || -> Result<Made<U>, AllocError>
-            requires { IsSync R.row × (theirs.board ≡ claims.now.board) × (theirs.view ≡ fresh rest) × (1 ≤ rest) × (1 + rest ≤ 64) × F.IsAlwaysCallable make.now }
+            requires { IsSync R.row × (theirs.board ≡ claims.now.board) × (theirs.view ≡ fresh rest) × (1 ≤ rest) × (1 + rest ≤ 64) × Callable claims.now.chunks (F.pre make.now) }
             ensures { IfOk result (λ r. Makes claims.entry.now.chunks (F.post make.entry.now) claims.entry.now.board rest r) }
         { run(rt, alloc, claims, theirs, gate, 1, rest, make) },
     );
@@ -237,9 +238,9 @@ pub(crate) fn by_whole_chunks<
     make: &F,
 ) -> Result<Vec<U>, AllocError>
     requires len { len < 2 ^ 62 }
-    requires callable { F.IsAlwaysCallable make.now }
+    requires callable { All (F.pre make.now) (range_with_len 0 (chunk_count plan.now.chunk len)) }
     requires whole { (c : ℕ) (x : Vec U) → F.post make.now c (Ok x) → length x.items ≡ min plan.now.chunk (len - c * plan.now.chunk) }
-    ensures { IfOk result (λ v. (part : ℕ → List U) → ((c : ℕ) (x : Vec U) → c < chunk_count plan.now.chunk len → F.post make.now c (Ok x) → x.items ≡ part c) → v.items ≡ flat_map part (range_with_len 0 (chunk_count plan.now.chunk len))) }
+    ensures { IfOk result (λ v. (lists : List (Vec U)) × Gives (λ c x. F.post make.now c (Ok x)) (range_with_len 0 (chunk_count plan.now.chunk len)) lists × (v.items ≡ flat_map (λ x. x.items) lists)) }
 {
     let count = count_chunks(len, plan.chunk);
     let workers = (plan.workers as usize).min(count.max(1)) as u32;

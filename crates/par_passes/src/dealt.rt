@@ -1,5 +1,5 @@
 //! A list that workers fill in place: each fills the parts that it draws.
-ghost use Rattle.std.specs.Prelude.{◌≡◌, ℕ, ◌+◌, ◌<◌, ◌≤◌, ◌^◌, [], All, Some, None, length, flat_map, slice_get, vec_capacity, IfOk, IfErr};
+ghost use Rattle.std.specs.Prelude.{◌≡◌, ℕ, ◌+◌, ◌-◌, ◌<◌, ◌≤◌, ◌^◌, [], All, Some, None, length, take, flat_map, slice_get, vec_capacity, IfOk, IfErr};
 ghost use Rattle.std.specs.Thread.{IsSync};
 ghost use denote.RawPtr.{Ptr};
 ghost use Rattle.std.specs.Mem.{type_size};
@@ -9,16 +9,41 @@ ghost use Rattle.deal_board.specs.Returned.{returned};
 ghost use Rattle.list_parts.specs.Parts.{part_items, part_start, Chain, Fits, SamePlaces};
 ghost use Rattle.list_parts.specs.declared.part.Part.{Part as Piece};
 ghost use Rattle.par_passes.specs.Dealt.{Serves, InPlace, IsWhole};
-ghost use Rattle.par_passes.specs.Passes.{Maps};
+ghost use Rattle.par_passes.specs.Passes.{Gives};
 
 use crate::chunk::{chunk_slice, count_chunks};
-use crate::fill::blank_list;
+use crate::fill::copies;
 use chunk_seats::{Gate, Plan};
 use deal_board::{DealBoard, Goods, Returned, Seat};
 use list_parts::{Part, with_part};
 use std::alloc::{AllocError, Global};
 use std::marker::Brand;
 use std::thread::{Threads, join};
+
+// What the function gives for each item, at the item's place. So many of the first values are there already.
+fn fill_behind<T: Copy, U: Copy, F: Fn(T) -> U>(out: &mut [U], items: &[T], known: usize, f: &F)
+    requires len { length items.now ≡ length out.old }
+    requires callable { All (F.pre f.now) items.now }
+    requires known { Gives (F.post f.now) (take known items.now) (take known out.old) }
+    ensures len { length out.new ≡ length out.old }
+    ensures values { Gives (F.post f.now) items.now out.new }
+{
+    for i in known..items.len() {
+        out[i] = f(items[i]);
+    }
+}
+
+// The part of chunk `c`, filled with what the function gives for the chunk's items. The first value of chunk 0 is there already.
+fn fill_part<T: Copy, U: Copy, F: Fn(T) -> U>(part: &mut Part<U>, items: &[T], c: u64, f: &F)
+    requires len { length items.now ≡ length (part_items part.old) }
+    requires callable { All (F.pre f.now) items.now }
+    requires known { Gives (F.post f.now) (take (1 - c) items.now) (take (1 - c) (part_items part.old)) }
+    ensures place { SamePlaces part.old part.new }
+    ensures values { Gives (F.post f.now) items.now (part_items part.new) }
+{
+    let known = 1_u64.saturating_sub(c) as usize;
+    fill_behind(part.as_mut_slice(), items, known, f);
+}
 
 // All that one worker does: it fills the parts that it draws, until none is left.
 fn fill_drawn<T: Copy, U: Copy, F: Fn(T) -> U, N: Goods<Part<U>>, G: Gate>(
@@ -41,8 +66,7 @@ fn fill_drawn<T: Copy, U: Copy, F: Fn(T) -> U, N: Goods<Part<U>>, G: Gate>(
 {
     while let Some(c) = board.deal(mine) {
         gate.after_claim(worker, Some(c));
-        mine.item_mut(board, c)
-            .map_in(chunk_slice(items, size, c), f);
+        fill_part(mine.item_mut(board, c), chunk_slice(items, size, c), c, f);
     }
     gate.after_claim(worker, None);
 }
@@ -176,17 +200,19 @@ fn deal_parts<
     requires callable { All (F.pre f.now) items.now }
     requires chunks { (0 < size) × (length parts.items ≡ chunk_count size (length items.now)) }
     requires wide { (c : ℕ) (part : Piece U) → slice_get parts.items c ≡ Some part → length (chunk_of size items.now c) ≡ length (part_items part) }
+    requires known { (c : ℕ) (part : Piece U) → slice_get parts.items c ≡ Some part → Gives (F.post f.now) (take (1 - c) (chunk_of size items.now c)) (take (1 - c) (part_items part)) }
     requires place { (start : Ptr) × Chain (type_size U.row) start parts.items }
     requires size { Fits (type_size U.row) (length (flat_map part_items parts.items)) }
     ensures place { IfOk result (λ p. (start : Ptr) → Chain (type_size U.row) start parts.items → part_start p ≡ start) }
     ensures wide { IfOk result (λ p. length (part_items p) ≡ length (flat_map part_items parts.items)) }
-    ensures values { IfOk result (λ p. Maps (F.post f.now) items.now (part_items p)) }
+    ensures values { IfOk result (λ p. Gives (F.post f.now) items.now (part_items p)) }
     ensures back { IfErr result (λ v. v.items ≡ parts.items) }
 {
     fill_parts::<T, U, F, Brand, G, R>(rt, alloc, workers, gate, items, size, f, parts)
 }
 
-// The part filled with what the function gives for each item. Where there is no memory for the board, its values are unknown.
+// The part filled with what the function gives for each item, of which the first is there already. Where there is no memory for the board, its
+// values are unknown.
 fn fill_whole<
     T: Copy + Sync,
     U: Copy + Send + Sync,
@@ -206,9 +232,10 @@ fn fill_whole<
     requires some { (0 < length items.now) × (length items.now < 2 ^ 62) }
     requires callable { All (F.pre f.now) items.now }
     requires wide { (length (part_items whole) ≡ length items.now) × Fits (type_size U.row) (length items.now) }
+    requires known { Gives (F.post f.now) (take 1 items.now) (take 1 (part_items whole)) }
     requires room { (room.items ≡ []) × (chunk_count plan.now.chunk (length items.now) ≤ vec_capacity room) }
     ensures place { SamePlaces whole result.0 }
-    ensures values { IfOk result.1 (λ _. Maps (F.post f.now) items.now (part_items result.0)) }
+    ensures values { IfOk result.1 (λ _. Gives (F.post f.now) items.now (part_items result.0)) }
 {
     let size = plan.chunk;
     let count = count_chunks(items.len(), size);
@@ -220,7 +247,22 @@ fn fill_whole<
     }
 }
 
-/// What the function gives for each item, for every plan and gate. The list is filled in place, each chunk by the worker that draws it.
+// A list with a place for each item, with the first value in it.
+fn begin_list<T: Copy, U: Copy, F: Fn(T) -> U>(
+    alloc: Global,
+    items: &[T],
+    f: &F,
+) -> Result<Vec<U>, AllocError>
+    requires some { 0 < length items.now }
+    requires callable { All (F.pre f.now) items.now }
+    ensures len { IfOk result (λ v. length v.items ≡ length items.now) }
+    ensures known { IfOk result (λ v. Gives (F.post f.now) (take 1 items.now) (take 1 v.items)) }
+{
+    copies(alloc, f(items[0]), items.len())
+}
+
+/// What the function gives for each item, by one call each. The list is made of copies of the first value and filled in place behind it, each
+/// chunk by the worker that draws it.
 pub(crate) fn map_in_place<
     T: Copy + Sync,
     U: Copy + Send + Sync,
@@ -230,14 +272,14 @@ pub(crate) fn map_in_place<
 >(rt: &R, alloc: Global, plan: &Plan, gate: &G, items: &[T], f: &F) -> Result<Vec<U>, AllocError>
     requires some { (0 < length items.now) × (length items.now < 2 ^ 62) }
     requires callable { All (F.pre f.now) items.now }
-    ensures { IfOk result (λ v. Maps (F.post f.now) items.now v.items) }
+    ensures { IfOk result (λ v. Gives (F.post f.now) items.now v.items) }
 {
     let room = Vec::with_capacity(alloc, count_chunks(items.len(), plan.chunk))?;
-    let mut out = blank_list(alloc, f(items[0]), items.len())?;
+    let mut out = begin_list(alloc, items, f)?;
     let fill = |whole: Part<U>, room: Vec<Part<U>>| -> (Part<U>, Result<(), AllocError>)
-        requires { (0 < length items.now) × (length items.now < 2 ^ 62) × All (F.pre f.now) items.now × (length (part_items whole) ≡ length items.now) × Fits (type_size U.row) (length items.now) × (room.items ≡ []) × (chunk_count plan.now.chunk (length items.now) ≤ vec_capacity room) }
+        requires { (0 < length items.now) × (length items.now < 2 ^ 62) × All (F.pre f.now) items.now × (length (part_items whole) ≡ length items.now) × Fits (type_size U.row) (length items.now) × Gives (F.post f.now) (take 1 items.now) (take 1 (part_items whole)) × (room.items ≡ []) × (chunk_count plan.now.chunk (length items.now) ≤ vec_capacity room) }
         ensures place { SamePlaces whole result.0 }
-        ensures values { IfOk result.1 (λ _. Maps (F.post f.entry.now) items.entry.now (part_items result.0)) }
+        ensures values { IfOk result.1 (λ _. Gives (F.post f.entry.now) items.entry.now (part_items result.0)) }
     { fill_whole(rt, alloc, plan, gate, items, f, whole, room) };
     with_part(out.as_mut_slice(), room, fill)?;
     Ok(out)

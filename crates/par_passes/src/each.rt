@@ -1,6 +1,6 @@
 //! A function of each item.
-ghost use Rattle.std.specs.Prelude.{◌≡◌, ◌+◌, ◌<◌, ◌^◌, ◌++◌, length, All, map, IfOk};
-ghost use Rattle.par_passes.specs.Passes.{Maps};
+ghost use Rattle.std.specs.Prelude.{◌≡◌, ◌<◌, ◌^◌, ◌++◌, List, length, All, map, IfOk};
+ghost use Rattle.par_passes.specs.Passes.{Gives};
 
 use crate::chunk::{chunk_slice, count_chunks};
 use crate::dealt::map_in_place;
@@ -16,8 +16,7 @@ fn map_onto<T: Copy, U: Copy, F: Fn(T) -> U>(
     out: &mut Vec<U>,
 ) -> Result<(), AllocError>
     requires callable { All (F.pre f.now) part.now }
-    ensures values { IfOk result (λ _. (g : T → U) → All (λ x. (r : U) → F.post f.now x r → r ≡ g x) part.now → out.new.items ≡ out.old.items ++ map g part.now) }
-    ensures whole { IfOk result (λ _. length out.new.items ≡ length out.old.items + length part.now) }
+    ensures { IfOk result (λ _. (before : List T) → Gives (F.post f.now) before out.old.items → Gives (F.post f.now) (before ++ part.now) out.new.items) }
 {
     for x in part {
         out.push(f(*x))?;
@@ -35,7 +34,7 @@ fn map_in_turn<T: Copy, U: Copy, F: Fn(T) -> U, G: Gate>(
 ) -> Result<Vec<U>, AllocError>
     requires len { length items.now < 2 ^ 62 }
     requires callable { All (F.pre f.now) items.now }
-    ensures { IfOk result (λ v. Maps (F.post f.now) items.now v.items) }
+    ensures { IfOk result (λ v. Gives (F.post f.now) items.now v.items) }
 {
     let size = plan.chunk;
     let mut out = Vec::with_capacity(alloc, items.len())?;
@@ -47,8 +46,8 @@ fn map_in_turn<T: Copy, U: Copy, F: Fn(T) -> U, G: Gate>(
     Ok(out)
 }
 
-/// What the function gives for each item, in the items' order. It is the same for every plan and gate. The only refusal is that
-/// memory is out.
+/// What the function gives for each item, in the items' order. It is called once for each item. Where it computes, the list is the same for
+/// every plan and gate. The only refusal is that memory is out.
 pub fn map<T: Copy + Sync, U: Copy + Send + Sync, F: Fn(T) -> U + Sync, G: Gate, R: Threads + Sync>(
     rt: &R,
     alloc: Global,
@@ -59,7 +58,9 @@ pub fn map<T: Copy + Sync, U: Copy + Send + Sync, F: Fn(T) -> U + Sync, G: Gate,
 ) -> Result<Vec<U>, AllocError>
     requires len { length items.now < 2 ^ 62 }
     requires callable { All (F.pre f.now) items.now }
-    ensures { IfOk result (λ v. (g : T → U) → All (λ x. (r : U) → F.post f.now x r → r ≡ g x) items.now → v.items ≡ map g items.now) }
+    ensures len { IfOk result (λ v. length v.items ≡ length items.now) }
+    ensures each { IfOk result (λ v. Gives (F.post f.now) items.now v.items) }
+    ensures values { IfOk result (λ v. (g : T → U) → All (λ x. (r : U) → F.post f.now x r → r ≡ g x) items.now → v.items ≡ map g items.now) }
 {
     let len = items.len();
     let size = plan.chunk;

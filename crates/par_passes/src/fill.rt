@@ -1,14 +1,15 @@
 //! The list of a pass, filled from the lists of its chunks.
-ghost use Rattle.std.specs.Prelude.{◌≡◌, ℕ, ◌+◌, ◌-◌, ◌*◌, ◌%◌, ◌<◌, ◌≤◌, ◌^◌, ◌++◌, min, max, length, take, drop, flat_map, IfOk};
+ghost use Rattle.std.specs.Prelude.{◌≡◌, ℕ, ◌+◌, ◌-◌, ◌*◌, ◌%◌, ◌<◌, ◌≤◌, ◌^◌, ◌++◌, min, max, replicate, length, take, drop, flat_map, IfOk};
 ghost use Rattle.std.specs.Thread.{IsSync};
 ghost use Rattle.par_passes.specs.Slots.{list_in, AreLevel};
 
 use std::alloc::{AllocError, Global};
 use std::thread::{Threads, for_each_chunk_mut};
 
-// A list of that many items.
-pub(crate) fn blank_list<U: Copy>(alloc: Global, item: U, len: usize) -> Result<Vec<U>, AllocError>
-    ensures { IfOk result (λ v. length v.items ≡ len) }
+// A list of that many copies.
+pub(crate) fn copies<U: Copy>(alloc: Global, item: U, len: usize) -> Result<Vec<U>, AllocError>
+    ensures len { IfOk result (λ v. length v.items ≡ len) }
+    ensures items { IfOk result (λ v. v.items ≡ replicate len item) }
 {
     let mut list = Vec::with_capacity(alloc, len)?;
     list.resize(len, item)?;

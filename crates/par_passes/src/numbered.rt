@@ -1,8 +1,8 @@
 //! Passes over the numbers of items: their places, and values made from numbers.
-ghost use Rattle.std.specs.Prelude.{◌≡◌, ℕ, ◌+◌, ◌-◌, ◌*◌, ◌<◌, ◌≤◌, ◌^◌, ◌++◌, min, Bool, length, All, map, IfOk};
+ghost use Rattle.std.specs.Prelude.{◌≡◌, ℕ, ◌+◌, ◌-◌, ◌*◌, ◌<◌, ◌≤◌, ◌^◌, ◌++◌, min, Bool, List, length, All, map, IfOk};
 ghost use Rattle.std.specs.List.{range_with_len};
 ghost use Rattle.chunk_seats.specs.Chunks.{chunk_of};
-ghost use Rattle.par_passes.specs.Passes.{Maps, marked};
+ghost use Rattle.par_passes.specs.Passes.{Gives, marked};
 
 use crate::chunk::{chunk_slice, chunk_start, count_chunks};
 use crate::crew::{by_chunks, by_whole_chunks};
@@ -117,8 +117,7 @@ fn tabulate_onto<U: Copy, F: Fn(u32) -> U>(
 ) -> Result<(), AllocError>
     requires order { from ≤ to }
     requires callable { All (F.pre f.now) (range_with_len from (to - from)) }
-    ensures values { IfOk result (λ _. (g : ℕ → U) → All (λ k. (r : U) → F.post f.now k r → r ≡ g k) (range_with_len from (to - from)) → out.new.items ≡ out.old.items ++ map g (range_with_len from (to - from))) }
-    ensures whole { IfOk result (λ _. length out.new.items ≡ length out.old.items + (to - from)) }
+    ensures { IfOk result (λ _. (before : List ℕ) → Gives (F.post f.now) before out.old.items → Gives (F.post f.now) (before ++ range_with_len from (to - from)) out.new.items) }
 {
     for k in from..to {
         out.push(f(k))?;
@@ -135,12 +134,30 @@ fn tabulate_chunk_onto<U: Copy, F: Fn(u32) -> U>(
     out: &mut Vec<U>,
 ) -> Result<(), AllocError>
     requires callable { All (F.pre f.now) (range_with_len 0 count) }
-    ensures values { IfOk result (λ _. (g : ℕ → U) → All (λ k. (r : U) → F.post f.now k r → r ≡ g k) (chunk_of size (range_with_len 0 count) c) → out.new.items ≡ out.old.items ++ map g (chunk_of size (range_with_len 0 count) c)) }
-    ensures whole { IfOk result (λ _. length out.new.items ≡ length out.old.items + min size (count - c * size)) }
+    ensures { IfOk result (λ _. (before : List ℕ) → Gives (F.post f.now) before out.old.items → Gives (F.post f.now) (before ++ chunk_of size (range_with_len 0 count) c) out.new.items) }
 {
     let from = chunk_start(count as usize, size, c) as u32;
     let to = from + (count - from).min(size);
     tabulate_onto(from, to, f, out)
+}
+
+// The values of chunk 0, of which the first is known.
+fn tabulate_first<U: Copy, F: Fn(u32) -> U>(
+    alloc: Global,
+    count: u32,
+    size: u32,
+    first: U,
+    f: &F,
+) -> Result<Vec<U>, AllocError>
+    requires some { (0 < count) × (0 < size) }
+    requires callable { All (F.pre f.now) (range_with_len 0 count) }
+    requires known { F.post f.now 0 first }
+    ensures { IfOk result (λ v. Gives (F.post f.now) (chunk_of size (range_with_len 0 count) 0) v.items) }
+{
+    let mut out = Vec::with_capacity(alloc, size as usize)?;
+    out.push(first)?;
+    tabulate_onto(1, count.min(size), f, &mut out)?;
+    Ok(out)
 }
 
 // The values of one chunk.
@@ -152,12 +169,32 @@ fn tabulate_chunk<U: Copy, F: Fn(u32) -> U>(
     f: &F,
 ) -> Result<Vec<U>, AllocError>
     requires callable { All (F.pre f.now) (range_with_len 0 count) }
-    ensures values { IfOk result (λ v. Maps (F.post f.now) (chunk_of size (range_with_len 0 count) c) v.items) }
-    ensures whole { IfOk result (λ v. length v.items ≡ min size (count - c * size)) }
+    ensures { IfOk result (λ v. Gives (F.post f.now) (chunk_of size (range_with_len 0 count) c) v.items) }
 {
     let mut out = Vec::with_capacity(alloc, size as usize)?;
     tabulate_chunk_onto(count, size, c, f, &mut out)?;
     Ok(out)
+}
+
+// The values of one chunk, where that of number 0 is known.
+fn tabulate_behind<U: Copy, F: Fn(u32) -> U>(
+    alloc: Global,
+    count: u32,
+    size: u32,
+    c: u64,
+    first: U,
+    f: &F,
+) -> Result<Vec<U>, AllocError>
+    requires some { (0 < count) × (0 < size) }
+    requires callable { All (F.pre f.now) (range_with_len 0 count) }
+    requires known { F.post f.now 0 first }
+    ensures values { IfOk result (λ v. Gives (F.post f.now) (chunk_of size (range_with_len 0 count) c) v.items) }
+    ensures whole { IfOk result (λ v. length v.items ≡ min size (count - c * size)) }
+{
+    if c == 0 {
+        return tabulate_first(alloc, count, size, first, f);
+    }
+    tabulate_chunk(alloc, count, size, c, f)
 }
 
 // All that one worker does alone: the chunks in turn, each right behind the one before it.
@@ -169,7 +206,7 @@ fn tabulate_in_turn<U: Copy, F: Fn(u32) -> U, G: Gate>(
     f: &F,
 ) -> Result<Vec<U>, AllocError>
     requires callable { All (F.pre f.now) (range_with_len 0 count) }
-    ensures { IfOk result (λ v. Maps (F.post f.now) (range_with_len 0 count) v.items) }
+    ensures { IfOk result (λ v. Gives (F.post f.now) (range_with_len 0 count) v.items) }
 {
     let mut out = Vec::with_capacity(alloc, count as usize)?;
     for c in 0..count_chunks(count as usize, plan.chunk) as u64 {
@@ -180,8 +217,31 @@ fn tabulate_in_turn<U: Copy, F: Fn(u32) -> U, G: Gate>(
     Ok(out)
 }
 
-/// What the function gives for each number below `count`, in order. It is the same for every plan and gate. The only refusal is that
-/// memory is out.
+// The same by workers. The first value is made before: the list is first of copies of it.
+fn tabulate_in_chunks<U: Copy + Send + Sync, F: Fn(u32) -> U + Sync, G: Gate, R: Threads + Sync>(
+    rt: &R,
+    alloc: Global,
+    plan: &Plan,
+    gate: &G,
+    count: u32,
+    f: &F,
+) -> Result<Vec<U>, AllocError>
+    requires some { 0 < count }
+    requires callable { All (F.pre f.now) (range_with_len 0 count) }
+    ensures { IfOk result (λ v. Gives (F.post f.now) (range_with_len 0 count) v.items) }
+{
+    let size = plan.chunk;
+    let first = f(0);
+    let make = |c: u64| -> Result<Vec<U>, AllocError>
+        requires { (0 < count) × (0 < size) × All (F.pre f.now) (range_with_len 0 count) × F.post f.now 0 first }
+        ensures values { IfOk result (λ v. Gives (F.post f.entry.now) (chunk_of size (range_with_len 0 count) c) v.items) }
+        ensures whole { IfOk result (λ v. length v.items ≡ min size (count - c * size)) }
+    { tabulate_behind(alloc, count, size, c, first, f) };
+    by_whole_chunks(rt, alloc, plan, gate, first, count as usize, &make)
+}
+
+/// What the function gives for each number below `count`, in order. It is called once for each number. Where it computes, the list is the
+/// same for every plan and gate. The only refusal is that memory is out.
 pub fn tabulate<U: Copy + Send + Sync, F: Fn(u32) -> U + Sync, G: Gate, R: Threads + Sync>(
     rt: &R,
     alloc: Global,
@@ -191,16 +251,12 @@ pub fn tabulate<U: Copy + Send + Sync, F: Fn(u32) -> U + Sync, G: Gate, R: Threa
     f: &F,
 ) -> Result<Vec<U>, AllocError>
     requires callable { All (F.pre f.now) (range_with_len 0 count) }
-    ensures { IfOk result (λ v. (g : ℕ → U) → All (λ k. (r : U) → F.post f.now k r → r ≡ g k) (range_with_len 0 count) → v.items ≡ map g (range_with_len 0 count)) }
+    ensures len { IfOk result (λ v. length v.items ≡ count) }
+    ensures each { IfOk result (λ v. Gives (F.post f.now) (range_with_len 0 count) v.items) }
+    ensures values { IfOk result (λ v. (g : ℕ → U) → All (λ k. (r : U) → F.post f.now k r → r ≡ g k) (range_with_len 0 count) → v.items ≡ map g (range_with_len 0 count)) }
 {
-    let size = plan.chunk;
-    if plan.workers == 1 || count <= size {
+    if plan.workers == 1 || count <= plan.chunk {
         return tabulate_in_turn(alloc, plan, gate, count, f);
     }
-    let make = |c: u64| -> Result<Vec<U>, AllocError>
-        requires { All (F.pre f.now) (range_with_len 0 count) }
-        ensures values { IfOk result (λ v. Maps (F.post f.entry.now) (chunk_of size (range_with_len 0 count) c) v.items) }
-        ensures whole { IfOk result (λ v. length v.items ≡ min size (count - c * size)) }
-    { tabulate_chunk(alloc, count, size, c, f) };
-    by_whole_chunks(rt, alloc, plan, gate, f(0), count as usize, &make)
+    tabulate_in_chunks(rt, alloc, plan, gate, count, f)
 }

@@ -5,7 +5,7 @@ ghost use Rattle.std.specs.List.{range_with_len, zip};
 ghost use Rattle.word_monoid.specs.Folds.{prefixes};
 ghost use Rattle.word_monoid.specs.Monoid.{IsItem};
 ghost use Rattle.scatter_rows.specs.Scattered.{AreDistinct, IsScattered};
-ghost use Rattle.par_passes.specs.Passes.{marked};
+ghost use Rattle.par_passes.specs.Passes.{Gives, marked};
 
 use crate::crew::by_chunks;
 use crate::each::{map, map_lifted};
@@ -42,7 +42,7 @@ pub trait Passes {
     /// The hook that is called after each claim.
     fn gate(&self) -> &Self::Hook;
 
-    /// What the function gives for each item, in the items' order.
+    /// What the function gives for each item, in the items' order. It is called once for each.
     final fn map<T: Copy + Sync, U: Copy + Send + Sync, F: Fn(T) -> U + Sync>(
         &self,
         items: &[T],
@@ -50,7 +50,9 @@ pub trait Passes {
     ) -> Result<Vec<U>, AllocError>
         requires len { length items.now < 2 ^ 62 }
         requires callable { All (F.pre f.now) items.now }
-        ensures { IfOk result (λ v. (g : T → U) → All (λ x. (r : U) → F.post f.now x r → r ≡ g x) items.now → v.items ≡ map g items.now) }
+        ensures len { IfOk result (λ v. length v.items ≡ length items.now) }
+        ensures each { IfOk result (λ v. Gives (F.post f.now) items.now v.items) }
+        ensures values { IfOk result (λ v. (g : T → U) → All (λ x. (r : U) → F.post f.now x r → r ≡ g x) items.now → v.items ≡ map g items.now) }
     {
         map(
             self.runtime(),
@@ -121,14 +123,16 @@ pub trait Passes {
         )
     }
 
-    /// What the function gives for each number below `count`, in order.
+    /// What the function gives for each number below `count`, in order. It is called once for each.
     final fn tabulate<U: Copy + Send + Sync, F: Fn(u32) -> U + Sync>(
         &self,
         count: u32,
         f: &F,
     ) -> Result<Vec<U>, AllocError>
         requires callable { All (F.pre f.now) (range_with_len 0 count) }
-        ensures { IfOk result (λ v. (g : ℕ → U) → All (λ k. (r : U) → F.post f.now k r → r ≡ g k) (range_with_len 0 count) → v.items ≡ map g (range_with_len 0 count)) }
+        ensures len { IfOk result (λ v. length v.items ≡ count) }
+        ensures each { IfOk result (λ v. Gives (F.post f.now) (range_with_len 0 count) v.items) }
+        ensures values { IfOk result (λ v. (g : ℕ → U) → All (λ k. (r : U) → F.post f.now k r → r ≡ g k) (range_with_len 0 count) → v.items ≡ map g (range_with_len 0 count)) }
     {
         tabulate(
             self.runtime(),
@@ -237,7 +241,7 @@ pub trait Passes {
         make: &F,
     ) -> Result<Vec<U>, AllocError>
         requires count { count < 2 ^ 62 }
-        requires callable { F.IsAlwaysCallable make.now }
+        requires callable { All (F.pre make.now) (range_with_len 0 count) }
         ensures { IfOk result (λ v. (part : ℕ → List U) → ((c : ℕ) (x : Vec U) → c < count → F.post make.now c (Ok x) → x.items ≡ part c) → v.items ≡ flat_map part (range_with_len 0 count)) }
     {
         by_chunks(

@@ -2,7 +2,8 @@
 ghost use Rattle.std.specs.Prelude.{◌≡◌, ◌<◌, ◌^◌, ◌/◌, length, map, IfOk};
 
 use super::*;
-use chunk_seats::{Gate, OpenGate, Plan};
+use crate::callers::crew;
+use chunk_seats::{Gate, Plan};
 use std::alloc::{AllocError, Global};
 use std::process::Abort;
 use std::sync::atomic::{AtomicU64, Ordering};
@@ -28,12 +29,7 @@ fn rows<R: Threads + Abort + Sync>(
     workers: u32,
     chunk: u32,
 ) -> Result<(), Fail> {
-    let crew = Workers {
-        runtime: rt,
-        alloc,
-        plan: Plan::new(workers, chunk).ok_or("in range")?,
-        gate: &OpenGate,
-    };
+    let crew = crew(rt, alloc, workers, chunk)?;
     let more = crew.map_lifted(&[1, 2], &More)?;
     assert!(rt; more.as_slice() == [2, 3].as_slice());
     let none = crew.map_lifted(&[], &More)?;
@@ -69,6 +65,22 @@ fn the_same_for_every_plan(rt: HostRuntime) -> Result<(), Fail> {
         }
     }
     Ok(())
+}
+
+// So many workers at a gate.
+fn at<'a, R, G>(
+    rt: &'a R,
+    alloc: Global,
+    workers: u32,
+    chunk: u32,
+    gate: &'a G,
+) -> Result<Workers<'a, R, G>, Fail> {
+    Ok(Workers {
+        runtime: rt,
+        alloc,
+        plan: Plan::new(workers, chunk).ok_or("in range")?,
+        gate,
+    })
 }
 
 // Eight bits for each worker, which count how often it found no chunk left, and a bit for each chunk that was drawn.
@@ -109,28 +121,25 @@ fn told(roll: &Roll) -> (u64, u64) {
 fn rolls<R: Threads + Abort + Sync>(
     rt: &R,
     alloc: Global,
-    plan: &Plan,
+    workers: u32,
+    chunk: u32,
     items: &[u32],
 ) -> Result<(u64, u64), Fail> {
     let roll = nobody_told();
-    let _all = map_lifted(rt, alloc, plan, &roll, items, &More)?;
+    let _all = at(rt, alloc, workers, chunk, &roll)?.map_lifted(items, &More)?;
     Ok(told(&roll))
 }
 
 #[test]
 fn each_worker_tells_its_number(rt: HostRuntime) -> Result<(), Fail> {
-    let four = Plan::new(4, 1).ok_or("in range")?;
-    assert_eq!(rt;
-        rolls(&rt, rt.alloc(), &four, &[3, 1, 4, 1, 5])?,
-        (0x0101_0101, 0b11111)
-    );
+    let alloc = rt.alloc();
+    let items = [3, 1, 4, 1, 5];
+    assert_eq!(rt; rolls(&rt, alloc, 4, 1, &items)?, (0x0101_0101, 0b11111));
     // no more workers than chunks, and one where there is none
-    let many = Plan::new(64, 2).ok_or("in range")?;
-    assert_eq!(rt; rolls(&rt, rt.alloc(), &many, &[3, 1, 4])?, (0x0101, 0b11));
-    assert_eq!(rt; rolls(&rt, rt.alloc(), &many, &[])?, (1, 0));
+    assert_eq!(rt; rolls(&rt, alloc, 64, 2, &items[..3])?, (0x0101, 0b11));
+    assert_eq!(rt; rolls(&rt, alloc, 64, 2, &[])?, (1, 0));
     // one worker tells of its chunks too
-    let one = Plan::new(1, 2).ok_or("in range")?;
-    assert_eq!(rt; rolls(&rt, rt.alloc(), &one, &[3, 1, 4])?, (1, 0b11));
+    assert_eq!(rt; rolls(&rt, alloc, 1, 2, &items[..3])?, (1, 0b11));
     Ok(())
 }
 
@@ -138,15 +147,15 @@ fn each_worker_tells_its_number(rt: HostRuntime) -> Result<(), Fail> {
 fn rolls_of_pushes<R: Threads + Abort + Sync>(
     rt: &R,
     alloc: Global,
-    plan: &Plan,
+    workers: u32,
     marks: &[bool],
 ) -> Result<[(u64, u64); 3], Fail>
     requires len { length marks.now < 2 ^ 32 }
 {
     let (kept, found, made) = (nobody_told(), nobody_told(), nobody_told());
-    let _kept = compact(rt, alloc, plan, &kept, marks, marks)?;
-    let _found = positions(rt, alloc, plan, &found, marks, &|x: bool| x)?;
-    let _made = tabulate(rt, alloc, plan, &made, marks.len() as u32, &|k: u32| k / 2)?;
+    let _kept = at(rt, alloc, workers, 2, &kept)?.compact(marks, marks)?;
+    let _found = at(rt, alloc, workers, 2, &found)?.positions(marks, &|x: bool| x)?;
+    let _made = at(rt, alloc, workers, 2, &made)?.tabulate(marks.len() as u32, &|k: u32| k / 2)?;
     Ok([told(&kept), told(&found), told(&made)])
 }
 
@@ -154,16 +163,15 @@ fn rolls_of_pushes<R: Threads + Abort + Sync>(
 fn passes_that_push_tell_of_each_chunk(rt: HostRuntime) -> Result<(), Fail> {
     let three = [true, false, true];
     for workers in [1, 64] {
-        let plan = Plan::new(workers, 2).ok_or("in range")?;
         let ended = if workers == 1 { 1 } else { 0x0101 };
-        for roll in rolls_of_pushes(&rt, rt.alloc(), &plan, &three)? {
+        for roll in rolls_of_pushes(&rt, rt.alloc(), workers, &three)? {
             assert_eq!(rt; roll, (ended, 0b11));
         }
         // one chunk, and none
-        for roll in rolls_of_pushes(&rt, rt.alloc(), &plan, &three[..2])? {
+        for roll in rolls_of_pushes(&rt, rt.alloc(), workers, &three[..2])? {
             assert_eq!(rt; roll, (1, 0b1));
         }
-        for roll in rolls_of_pushes(&rt, rt.alloc(), &plan, &[])? {
+        for roll in rolls_of_pushes(&rt, rt.alloc(), workers, &[])? {
             assert_eq!(rt; roll, (1, 0));
         }
     }
@@ -212,51 +220,36 @@ fn have_met(gate: &Meeting) -> bool {
 
 #[test]
 fn two_workers_meet(rt: HostRuntime) -> Result<(), Fail> {
-    let plan = Plan::new(2, 1).ok_or("in range")?;
+    let alloc = rt.alloc();
     let gate = nobody_yet();
-    let more = map_lifted(&rt, rt.alloc(), &plan, &gate, &[1, 2], &More)?;
+    let more = at(&rt, alloc, 2, 1, &gate)?.map_lifted(&[1, 2], &More)?;
     assert!(rt; more.as_slice() == [2, 3].as_slice());
     assert!(rt; have_met(&gate));
     let gate = nobody_yet();
-    let placed = gather(&rt, rt.alloc(), &plan, &gate, &[5, 6, 7], &[2, 0, 2])?;
+    let placed = at(&rt, alloc, 2, 1, &gate)?.gather(&[5, 6, 7], &[2, 0, 2])?;
     assert!(rt; placed.as_slice() == [7, 5, 7].as_slice());
     assert!(rt; have_met(&gate));
     let gate = nobody_yet();
-    let kept = compact(
-        &rt,
-        rt.alloc(),
-        &plan,
-        &gate,
-        &[5, 6, 7],
-        &[true, false, true],
-    )?;
+    let kept = at(&rt, alloc, 2, 1, &gate)?.compact(&[5, 6, 7], &[true, false, true])?;
     assert!(rt; kept.as_slice() == [5, 7].as_slice());
     assert!(rt; have_met(&gate));
     let gate = nobody_yet();
-    let places = positions(&rt, rt.alloc(), &plan, &gate, &[5, 6, 7], &|x: u32| x != 6)?;
+    let places = at(&rt, alloc, 2, 1, &gate)?.positions(&[5, 6, 7], &|x: u32| x != 6)?;
     assert!(rt; places.as_slice() == [0, 2].as_slice());
     assert!(rt; have_met(&gate));
     let gate = nobody_yet();
-    let table = tabulate(&rt, rt.alloc(), &plan, &gate, 3, &|k: u32| k / 2)?;
+    let table = at(&rt, alloc, 2, 1, &gate)?.tabulate(3, &|k: u32| k / 2)?;
     assert!(rt; table.as_slice() == [0, 0, 1].as_slice());
     assert!(rt; have_met(&gate));
     let gate = nobody_yet();
-    assert_eq!(rt; least(&rt, rt.alloc(), &plan, &gate, &[4, 2, 9])?, 2);
+    assert_eq!(rt; at(&rt, alloc, 2, 1, &gate)?.least(&[4, 2, 9])?, 2);
     assert!(rt; have_met(&gate));
     let gate = nobody_yet();
-    let sums = scan_lifted(
-        &rt,
-        rt.alloc(),
-        &plan,
-        &gate,
-        &Count,
-        &[2, 0, 3, 0, 4],
-        &More,
-    )?;
+    let sums = at(&rt, alloc, 2, 1, &gate)?.scan_lifted(&Count, &[2, 0, 3, 0, 4], &More)?;
     assert!(rt; sums.as_slice() == [0, 3, 4, 8, 9, 14].as_slice());
     assert!(rt; have_met(&gate));
     let gate = nobody_yet();
-    let cells = scatter(&rt, rt.alloc(), &plan, &gate, &[2, 0], &[7, 9], 4)?;
+    let cells = at(&rt, alloc, 2, 1, &gate)?.scatter(&[2, 0], &[7, 9], 4)?;
     assert!(rt; cells.as_slice() == [9, 0, 7, 0].as_slice());
     assert!(rt; have_met(&gate));
     Ok(())

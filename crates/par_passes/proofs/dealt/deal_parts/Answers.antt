@@ -1,11 +1,15 @@
-use Rattle.std.proofs.Common.{◌≡◌, ℕ, map, length, ◌∙◌}
+use Rattle.std.proofs.Common.{length}
 use Rattle.chunk_seats.specs.Chunks.{chunk_of}
-use Rattle.par_passes.proofs.Together.{if_ok, all_chunk, map_together}
+use Rattle.list_parts.specs.Parts.{part_items}
+use Rattle.par_passes.specs.Passes.{Gives}
+use Rattle.par_passes.proofs.Together.{if_ok}
+use Rattle.par_passes.proofs.Giving.{gives_weaker, gives_chunks}
 use Rattle.par_passes.proofs.dealt.deal_parts.Goals as goal
 
 pub returns-clause-values : goal.returns-clause-values
 returns-clause-values g c =
-    let size = c.args.size in let items = c.args.items.now in let chunks = c.requires.chunks in
-    if_ok c.fill_parts.result c.fill_parts.ensures.whole (λ p whole h each.
-    whole.values (λ (k : ℕ). map h (chunk_of size items k)) (λ k part near fine. fine.values h (all_chunk (λ x. (r : _) → g.F.Fn.post c.args.f.now (x, tt) r → r ≡ h x) size items k each))
-    ∙ map_together h size items chunks.0 (length c.args.parts.items) chunks.1)
+    let size = c.args.size in let items = c.args.items.now in let chunks = c.requires.chunks in let post : _ → _ → Type 0 = λ x r. g.F.Fn.post c.args.f.now (x, tt) r in
+    if_ok c.fill_parts.result c.fill_parts.ensures.whole (λ p whole.
+    let back = whole.values in
+    gives_chunks post part_items size items (length c.args.parts.items) back.0 (part_items p) chunks.0 chunks.1 back.2
+    (gives_weaker _ (λ k part. Gives post (chunk_of size items k) (part_items part)) _ back.0 (λ k part fine. fine.values) back.1))

@@ -1,6 +1,7 @@
-use Rattle.std.proofs.Common.{◌≡◌, ℕ, ◌+◌, ◌-◌, ◌*◌, min, All, List, length, arith, ◌++◌, map, ap, sym, subst, ◌∙◌}
+use Rattle.std.proofs.Common.{◌≡◌, ℕ, ◌+◌, ◌-◌, ◌*◌, min, All, ◌++◌, ap, sym, subst}
 use Rattle.std.specs.List.{range_with_len}
 use Rattle.chunk_seats.specs.Chunks.{chunk_of}
+use Rattle.par_passes.specs.Passes.{Gives}
 use Rattle.par_passes.proofs.Together.{if_ok, all_chunk}
 use Rattle.par_passes.proofs.Marking.{numbers_chunk}
 use Rattle.par_passes.proofs.numbered.tabulate_chunk_onto.Given as given
@@ -15,18 +16,8 @@ tabulate_onto-requires-clause-callable g c =
     let P = given.F-pre g c.args.f.now in
     subst (All P) (numbers c.args.size c.args.count c.args.c c.chunk_start-from.result c.min.result c.chunk_start-from.ensures c.min.ensures) (all_chunk P c.args.size (range_with_len 0 c.args.count) c.args.c c.requires.callable)
 
-pub returns-clause-values : goal.returns-clause-values
-returns-clause-values g c =
+pub returns : goal.returns
+returns g c =
     let same = numbers c.args.size c.args.count c.args.c c.chunk_start-from.result c.min.result c.chunk_start-from.ensures c.min.ensures in
-    if_ok c.tabulate_onto.result c.tabulate_onto.ensures.values (λ u gives h computes.
-    gives h (subst (All (λ (k : ℕ). (r : _) → given.F-post g c.args.f.now k r → r ≡ h k)) same computes)
-    ∙ ap (λ (l : List ℕ). c.args.out.now.items ++ map h l) (sym same))
-
--- how many numbers the chunk has
-many : (size n x from least : ℕ) → from ≡ min x n → least ≡ min (n - from) size → from + least - from ≡ min size (n - x)
-many size n x from least begins is = omega arith
-
-pub returns-clause-whole : goal.returns-clause-whole
-returns-clause-whole g c =
-    if_ok c.tabulate_onto.result c.tabulate_onto.ensures.whole (λ u wide.
-    wide ∙ ap (λ (k : ℕ). length c.args.out.now.items + k) (many c.args.size c.args.count (c.args.c * c.args.size) c.chunk_start-from.result c.min.result c.chunk_start-from.ensures c.min.ensures))
+    if_ok c.tabulate_onto.result c.tabulate_onto.ensures (λ u gives before all.
+    subst (λ l. Gives (given.F-post g c.args.f.now) (before ++ l) c.tabulate_onto.new.out.items) (sym same) (gives before all))

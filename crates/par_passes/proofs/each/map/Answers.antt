@@ -1,0 +1,10 @@
+use Rattle.par_passes.proofs.Giving.{gives_maps}
+use Rattle.par_passes.proofs.Together.{if_ok}
+use Rattle.par_passes.proofs.each.map.Given as given
+use Rattle.par_passes.proofs.each.map.Goals as goal
+
+pub returns-then-plan-eq1-clause-values : goal.returns-then-plan-eq1-clause-values
+returns-then-plan-eq1-clause-values g c = if_ok c.map_in_turn.result c.map_in_turn.ensures (λ v all. gives_maps (given.F-post g c.args.f.now) c.args.items.now v.items all)
+
+pub returns-clause-values : goal.returns-clause-values
+returns-clause-values g c = if_ok c.map_in_place.result c.map_in_place.ensures (λ v all. gives_maps (given.F-post g c.args.f.now) c.args.items.now v.items all)
