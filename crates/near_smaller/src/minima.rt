@@ -5,11 +5,9 @@ ghost use Rattle.near_smaller.specs.Nearest.{AreAbove, IsPrevious, IsNext, prev_
 use crate::before::{height_before, place_before};
 use crate::behind::{height_behind, place_behind};
 use crate::levels::all_levels;
-use chunk_seats::{Gate, Plan};
-use par_passes::{Passes, Workers};
-use std::alloc::{AllocError, Global};
+use par_passes::Passes;
+use std::alloc::AllocError;
 use std::marker::Model;
-use std::thread::Threads;
 
 /// Values, and the minima of their blocks. Contracts see the list of the values.
 #[derive(Drop)]
@@ -30,32 +28,13 @@ impl Model for Minima {
 }
 
 impl Minima {
-    /// The values, with the minima of all their blocks: twice as many words as there are values. It is the same for every plan and
-    /// gate. The only refusal is that memory is out.
-    pub fn of(crew: &impl Passes, values: &[i64]) -> Result<Minima, AllocError>
+    /// The values, with the minima of all their blocks: twice as many words as there are values. It is the same for every crew. The only
+    /// refusal is that memory is out.
+    pub fn build(crew: &impl Passes, values: &[i64]) -> Result<Minima, AllocError>
         ensures { IfOk result (λ m. m ≡ values.now) }
     {
         let levels = all_levels(crew, values)?;
         Ok(Minima { levels })
-    }
-
-    /// The same by a crew of these.
-    pub fn build<G: Gate, R: Threads + Sync>(
-        rt: &R,
-        alloc: Global,
-        plan: &Plan,
-        gate: &G,
-        values: &[i64],
-    ) -> Result<Minima, AllocError>
-        ensures { IfOk result (λ m. m ≡ values.now) }
-    {
-        let crew = Workers {
-            runtime: rt,
-            alloc,
-            plan: *plan,
-            gate,
-        };
-        Minima::of(&crew, values)
     }
 
     /// The greatest place before i whose value is at most x, `None` exactly where there is none. It takes no memory, and

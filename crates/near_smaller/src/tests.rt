@@ -4,7 +4,7 @@ ghost use Rattle.near_smaller.specs.Nearest.{prev_le};
 
 use super::*;
 use chunk_seats::{Gate, OpenGate, Plan};
-use par_passes::map as map_items;
+use par_passes::{Passes, Workers};
 use std::alloc::{AllocError, Global};
 use std::process::Abort;
 use std::sync::atomic::{AtomicU64, Ordering};
@@ -17,9 +17,13 @@ fn questions<R: Threads + Abort + Sync>(
     workers: u32,
     chunk: u32,
 ) -> Result<(), Fail> {
-    let plan = Plan::new(workers, chunk).ok_or("in range")?;
-    let values = [3, 1, 4, 1, 5];
-    let minima = Minima::build(rt, alloc, &plan, &OpenGate, &values)?;
+    let crew = Workers {
+        runtime: rt,
+        alloc,
+        plan: Plan::new(workers, chunk).ok_or("in range")?,
+        gate: &OpenGate,
+    };
+    let minima = Minima::build(&crew, &[3, 1, 4, 1, 5])?;
     assert_eq!(rt; minima.prev_le(4, 3), Some(3));
     assert_eq!(rt; minima.prev_le(3, 0), None);
     assert_eq!(rt; minima.next_le(1, 1), Some(3));
@@ -30,16 +34,14 @@ fn questions<R: Threads + Abort + Sync>(
     assert_eq!(rt; minima.next_le(3, 5), Some(4));
     assert_eq!(rt; minima.next_le(4, 5), None);
     assert_eq!(rt; minima.next_le(5, 5), None);
-    let before = all_before(rt, alloc, &plan, &minima, &[4, 0, 5], 1)?;
+    let before = all_before(&crew, &minima, &[4, 0, 5], 1)?;
     assert!(rt; before.as_slice() == [Some(3), None, Some(3)].as_slice());
     Ok(())
 }
 
 // How a pass asks for many places.
-fn all_before<R: Threads + Sync>(
-    rt: &R,
-    alloc: Global,
-    plan: &Plan,
+fn all_before(
+    crew: &impl Passes,
     minima: &Minima,
     places: &[u64],
     x: i64,
@@ -48,14 +50,7 @@ fn all_before<R: Threads + Sync>(
     requires within { All (λ i. i ≤ length minima.now) places.now }
     ensures { IfOk result (λ v. v.items ≡ map (λ i. prev_le minima.now i x) places.now) }
 {
-    map_items(
-        rt,
-        alloc,
-        plan,
-        &OpenGate,
-        places,
-        &|i: u64| minima.prev_le(i as usize, x),
-    )
+    crew.map(places, &|i: u64| minima.prev_le(i as usize, x))
 }
 
 #[test]
@@ -70,12 +65,17 @@ fn the_same_for_every_plan(rt: HostRuntime) -> Result<(), Fail> {
 
 // Values that fall from 0 on.
 fn falling<R: Threads + Abort + Sync>(rt: &R, alloc: Global, count: usize) -> Result<(), Fail> {
-    let plan = Plan::new(4, 7).ok_or("in range")?;
+    let crew = Workers {
+        runtime: rt,
+        alloc,
+        plan: Plan::new(4, 7).ok_or("in range")?,
+        gate: &OpenGate,
+    };
     let mut values = Vec::with_capacity(alloc, count)?;
     for i in 0..count {
         values.push(-(i as i64 % 100))?;
     }
-    let minima = Minima::build(rt, alloc, &plan, &OpenGate, &values)?;
+    let minima = Minima::build(&crew, &values)?;
     assert_eq!(rt; minima.prev_le(values.len(), 0), count.checked_sub(1));
     assert_eq!(rt; minima.prev_le(values.len(), -100), None);
     let second = if count > 1 { Some(1) } else { None };
@@ -95,6 +95,7 @@ fn one_chunk_and_one_item_more(rt: HostRuntime) -> Result<(), Fail> {
 #[derive(Drop)]
 struct Meeting {
     claims: [AtomicU64; 2],
+    met: AtomicU64,
     alone: AtomicU64,
 }
 
@@ -109,6 +110,7 @@ impl Gate for Meeting {
         }
         for _ in 0..TURNS {
             if self.claims[other].load(Ordering::SeqCst) > 0 {
+                self.met.fetch_add(1, Ordering::SeqCst);
                 return;
             }
         }
@@ -118,14 +120,21 @@ impl Gate for Meeting {
 
 #[test]
 fn two_workers_meet(rt: HostRuntime) -> Result<(), Fail> {
-    let plan = Plan::new(2, 1).ok_or("in range")?;
     let gate = Meeting {
         claims: [AtomicU64::new(0), AtomicU64::new(0)],
+        met: AtomicU64::new(0),
         alone: AtomicU64::new(0),
     };
-    let minima = Minima::build(&rt, rt.alloc(), &plan, &gate, &[3, 1, 4, 1, 5])?;
+    let crew = Workers {
+        runtime: &rt,
+        alloc: rt.alloc(),
+        plan: Plan::new(2, 1).ok_or("in range")?,
+        gate: &gate,
+    };
+    let minima = Minima::build(&crew, &[3, 1, 4, 1, 5])?;
     assert_eq!(rt; minima.prev_le(4, 3), Some(3));
+    // somebody drew chunk 0, and nobody gave up
+    assert!(rt; gate.met.load(Ordering::SeqCst) > 0);
     assert_eq!(rt; gate.alone.load(Ordering::SeqCst), 0);
-    assert!(rt; gate.claims[1].load(Ordering::SeqCst) > 0);
     Ok(())
 }
