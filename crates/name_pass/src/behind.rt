@@ -12,11 +12,7 @@ use par_passes::Passes;
 use std::alloc::AllocError;
 
 // How near to the greatest number the parents of declarations stand.
-fn ends(
-    crew: &impl Passes,
-    rows: &Rows,
-    keys: &[NameKey<'_>],
-) -> Result<Vec<i64>, AllocError>
+fn ends(crew: &impl Passes, rows: &Rows, keys: &[NameKey<'_>]) -> Result<Vec<i64>, AllocError>
     requires len { length keys.now < 2 ^ 62 }
     requires within { All (λ k. k.row < length rows.now) keys.now }
     ensures { IfOk result (λ v. v.items ≡ map (end_of_key rows.now) keys.now) }

@@ -63,11 +63,7 @@ pub(crate) fn found(crew: &impl Passes, scopes: &Scopes<'_>) -> Result<Vec<u32>,
 }
 
 /// The row that declares what each row means.
-pub(crate) fn meant(
-    crew: &impl Passes,
-    rows: &Rows,
-    words: &[u32],
-) -> Result<Vec<u32>, AllocError>
+pub(crate) fn meant(crew: &impl Passes, rows: &Rows, words: &[u32]) -> Result<Vec<u32>, AllocError>
     requires few { length rows.now < 2 ^ 30 }
     requires words { AreRows rows.now words.now }
     ensures { IfOk result (λ v. v.items ≡ meant_column rows.now words.now) }
@@ -81,11 +77,7 @@ pub(crate) fn meant(
 }
 
 // The key of each row's fault.
-fn fault_keys(
-    crew: &impl Passes,
-    rows: &Rows,
-    words: &[u32],
-) -> Result<Vec<u64>, AllocError>
+fn fault_keys(crew: &impl Passes, rows: &Rows, words: &[u32]) -> Result<Vec<u64>, AllocError>
     requires few { length rows.now < 2 ^ 30 }
     requires words { AreRows rows.now words.now }
     ensures { IfOk result (λ v. v.items ≡ map (fault_in rows.now words.now) (range_with_len 0 (length rows.now))) }
@@ -99,11 +91,7 @@ fn fault_keys(
 }
 
 /// The least key of the rows' faults.
-pub(crate) fn least_key(
-    crew: &impl Passes,
-    rows: &Rows,
-    words: &[u32],
-) -> Result<u64, AllocError>
+pub(crate) fn least_key(crew: &impl Passes, rows: &Rows, words: &[u32]) -> Result<u64, AllocError>
     requires few { length rows.now < 2 ^ 30 }
     requires words { AreRows rows.now words.now }
     ensures { IfOk result (λ m. m ≡ fold min no_fault (map (fault_in rows.now words.now) (range_with_len 0 (length rows.now)))) }

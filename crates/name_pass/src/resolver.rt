@@ -46,5 +46,10 @@ pub fn resolve(
     let key = least_key(crew, rows, &words)?;
     let numbers = numbers(crew, rows.kinds())?;
     let main = scopes.main();
-    answer(meant, numbers, main, key.min(main_key(rows, tokens.len() as u32, main)))
+    answer(
+        meant,
+        numbers,
+        main,
+        key.min(main_key(rows, tokens.len() as u32, main)),
+    )
 }

@@ -57,7 +57,7 @@ module _ (rows : List Row) (names : NameRows) (cells : List ℕ) (few : length r
     names_are = are;
     placed = subst (λ (l : List Row). (i : ℕ) → i < length (owners l) → get_or cells (get_or (owners l) i 0) 0 ≡ get_or (marks l) i 0) is
         (put (subst (λ (l : List Row). AreDistinct (owners l)) (sym is) (owners_distinct p (program_named p shaped) small))
-             (subst (λ (l : List Row). All (λ q. q < length l) (owners l)) (sym is) (owners_inside p (program_named p shaped) small)));
+        (subst (λ (l : List Row). All (λ q. q < length l) (owners l)) (sym is) (owners_inside p (program_named p shaped) small)));
   }
 
   pub types_there : types_in rows names cells ≡ types p

@@ -73,8 +73,8 @@ marks_tell f n marks is =
     let many : length marks ≡ n = ap length is ∙ length-map-range_with_len f 0 n in
     ap (λ (m : ℕ). filter (λ k. get_or marks k false) (range_with_len 0 m)) many
     ∙ filter_on (λ (k : ℕ). k < n) (λ k. get_or marks k false) f (range_with_len 0 n)
-      (λ k l. ap (λ (ms : List Bool). get_or ms k false) is ∙ get_or-map-range_with_len f 0 n k k false l (omega arith))
-      (range_within n)
+    (λ k l. ap (λ (ms : List Bool). get_or ms k false) is ∙ get_or-map-range_with_len f 0 n k k false l (omega arith))
+    (range_within n)
 
 pub targets_within : (kinds : List Kind) (parents places targets : List ℕ) → targets ≡ targets_in kinds parents places → length kinds ≤ 2 ^ 25 → All (λ j. j < 2 ^ 25) targets
 targets_within kinds parents places targets is few = subst (λ (l : List ℕ). All (λ j. j < 2 ^ 25) l) (sym is) within_all

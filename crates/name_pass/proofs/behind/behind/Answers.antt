@@ -15,6 +15,6 @@ returns c =
       place = c.place.result;
       is_place = c.place.ensures;
       last = found_behind s.rows.now s.declarations.now c.args.ends.now c.requires.ends c.args.row c.place.result c.requires.small c.place.ensures.within c.prev_le.result
-        (subst (λ (x : ℤ). IfSome c.prev_le.result (IsPrevious c.args.ends.now c.place.result x)) is c.prev_le.ensures.found)
-        (subst (λ (x : ℤ). IfNone c.prev_le.result (AreAbove c.args.ends.now x 0 c.place.result)) is c.prev_le.ensures.none);
+          (subst (λ (x : ℤ). IfSome c.prev_le.result (IsPrevious c.args.ends.now c.place.result x)) is c.prev_le.ensures.found)
+          (subst (λ (x : ℤ). IfNone c.prev_le.result (AreAbove c.args.ends.now x 0 c.place.result)) is c.prev_le.ensures.none);
     }

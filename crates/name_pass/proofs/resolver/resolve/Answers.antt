@@ -34,7 +34,7 @@ returns g c =
     let least_is : c.in_ok-key.key ≡ fold min no_fault (map (fault_at rows words) (range_with_len 0 (length rows))) = c.in_ok-key.ensures ∙ ap (λ (ws : List ℕ). fold min no_fault (map (fault_at rows ws) (range_with_len 0 (length rows)))) c.deref-4.ensures.value in
     let key_is : min c.in_ok-key.key (main_key rows (length tokens) main) ≡ c.min.result = sym (c.min.ensures ∙ ap (min c.in_ok-key.key) (c.main_key.ensures ∙ ap (λ (n : ℕ). main_key rows n main) c.len.ensures)) in
     let columns : (p : Program) → rows ≡ post p → IsFormed (length tokens) (spelled text tokens) p → AreColumns text tokens p meant numbers main c.min.result = λ p is formed.
-        subst (AreColumns text tokens p meant numbers main) key_is (columns_are text tokens rows words c.in_ok-words.ensures p is formed c.requires.rows c.requires.tokens meant numbers main c.in_ok-key.key meant_is numbers_are c.main-main.ensures.named least_is) in
+    subst (AreColumns text tokens p meant numbers main) key_is (columns_are text tokens rows words c.in_ok-words.ensures p is formed c.requires.rows c.requires.tokens meant numbers main c.in_ok-key.key meant_is numbers_are c.main-main.ensures.named least_is) in
     record {
       lens = if_ok c.answer.result c.answer.ensures.lens (λ n many. (many.0 ∙ (ap length meant_is ∙ meant_many rows words), many.1 ∙ (ap length numbers_are ∙ numbers_many rows)));
       ok = if_ok c.answer.result c.answer.ensures.ok (λ n all p is formed. all text tokens p (columns p is formed));

@@ -14,7 +14,7 @@ returns-in-Some-clause-fault g c = λ code at e p is shaped are.
     let functions_are = c.deref-3.ensures.value ∙ (c.in_ok-functions.ensures ∙ ap functions_by c.kinds-2.ensures) in
     let before_are = c.deref-4.ensures.value ∙ (c.in_ok-before.ensures ∙ ap before_by c.kinds-3.ensures) in
     let key_is = key_there rows names cells c.kinds-4.result.now c.parents.result.now c.tokens.result.now c.places.result.now c.meant-2.result.now c.deref-2.result.now c.deref-3.result.now c.deref-4.result.now
-        c.kinds-4.ensures c.parents.ensures c.tokens.ensures c.places.ensures c.meant-2.ensures types_are functions_are before_are c.in_ok-key.key c.in_ok-key.ensures in
+    c.kinds-4.ensures c.parents.ensures c.tokens.ensures c.places.ensures c.meant-2.ensures types_are functions_are before_are c.in_ok-key.key c.in_ok-key.ensures in
     let low = subst (λ (l : List ℕ). (k : ℕ) → get_or l k 0 < 2 ^ 32) c.tokens.ensures c.tokens_fit.ensures in
     let same : c.in-Some.fault ≡ Diagnostic code at = cc in
     something rows names cells c.requires.nodes c.in_ok-targets.ensures p is shaped are low c.in_ok-key.key key_is c.diagnosis.result c.diagnosis.ensures c.in-Some.fault c.in-Some.is code at same
@@ -29,7 +29,8 @@ returns-clause-ok g c = λ p is shaped are.
     let functions_are = c.deref-3.ensures.value ∙ (c.in_ok-functions.ensures ∙ ap functions_by c.kinds-2.ensures) in
     let before_are = c.deref-4.ensures.value ∙ (c.in_ok-before.ensures ∙ ap before_by c.kinds-3.ensures) in
     let key_is = key_there rows names cells c.kinds-4.result.now c.parents.result.now c.tokens.result.now c.places.result.now c.meant-2.result.now c.deref-2.result.now c.deref-3.result.now c.deref-4.result.now
-        c.kinds-4.ensures c.parents.ensures c.tokens.ensures c.places.ensures c.meant-2.ensures types_are functions_are before_are c.in_ok-key.key c.in_ok-key.ensures in
-    let low = subst (λ (l : List ℕ). (k : ℕ) → get_or l k 0 < 2 ^ 32) c.tokens.ensures c.tokens_fit.ensures in
-    (nothing rows names cells c.requires.nodes c.in_ok-targets.ensures p is shaped are low c.in_ok-key.key key_is c.diagnosis.result c.diagnosis.ensures c.in-None.is,
-     c.new.ensures ∙ (column ∙ types_there rows names cells c.requires.nodes c.in_ok-targets.ensures p is shaped are))
+    c.kinds-4.ensures c.parents.ensures c.tokens.ensures c.places.ensures c.meant-2.ensures types_are functions_are before_are c.in_ok-key.key c.in_ok-key.ensures in
+    let low = subst (λ (l : List ℕ). (k : ℕ) → get_or l k 0 < 2 ^ 32) c.tokens.ensures c.tokens_fit.ensures in (
+      nothing rows names cells c.requires.nodes c.in_ok-targets.ensures p is shaped are low c.in_ok-key.key key_is c.diagnosis.result c.diagnosis.ensures c.in-None.is,
+      c.new.ensures ∙ (column ∙ types_there rows names cells c.requires.nodes c.in_ok-targets.ensures p is shaped are),
+    )

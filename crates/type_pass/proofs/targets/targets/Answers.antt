@@ -24,4 +24,4 @@ returns g c =
     let targets_are : c.deref.result.now ≡ targets_in (kinds_of rows) (parent_numbers 0 rows) (places_of rows) = c.deref.ensures.value ∙ (c.in_ok-targets.ensures ∙ (λ i. targets_in (c.kinds.ensures i) (c.parents.ensures i) (c.places.ensures i))) in
     let wide : length c.as_mut_slice.result.now ≡ length rows = c.as_mut_slice.ensures.len ∙ (c.in_ok-cells.ensures.len ∙ c.len.ensures) in
     subst (λ (l : List ℕ). AreDistinct (owners rows) → All (λ q. q < length rows) (owners rows) → (i : ℕ) → i < length (owners rows) → get_or l (get_or (owners rows) i 0) 0 ≡ get_or (marks rows) i 0) (sym taken)
-      (put_there rows c.parents-2.result.now c.deref.result.now put (length c.as_mut_slice.result.now) c.parents-2.ensures targets_are wide c.put.ensures)
+    (put_there rows c.parents-2.result.now c.deref.result.now put (length c.as_mut_slice.result.now) c.parents-2.ensures targets_are wide c.put.ensures)
