@@ -9,12 +9,9 @@ ghost use Rattle.par_lexer.specs.Spans.{places_where};
 
 use crate::automaton::{NOTHING, automaton, is_begun};
 use crate::vectors::marks_by_vectors;
-use chunk_seats::{Gate, Plan};
-use par_passes::positions;
-use scan_lookback::{Lift, scan_lifted};
+use par_passes::{Lift, Passes};
 use state_monoid::{BuildFault, Compositions, Dfa};
 use std::alloc::{AllocError, Global};
-use std::thread::Threads;
 
 // The number of the function of a byte, as a function that contracts can name.
 #[derive(Drop)]
@@ -33,26 +30,11 @@ impl Lift<u8, u16> for ByFunctions {
 }
 
 // For each place the number of the function of the bytes before it.
-fn codes<G: Gate, R: Threads + Sync>(
-    rt: &R,
-    alloc: Global,
-    plan: &Plan,
-    gate: &G,
-    functions: &ByFunctions,
-    text: &[u8],
-) -> Result<Vec<u16>, AllocError>
+fn codes(crew: &impl Passes, functions: &ByFunctions, text: &[u8]) -> Result<Vec<u16>, AllocError>
     requires len { length text.now < 2 ^ 62 }
     ensures { IfOk result (λ v. v.items ≡ prefixes (composition functions.now.compositions) (map (byte_number functions.now.compositions) text.now)) }
 {
-    scan_lifted(
-        rt,
-        alloc,
-        plan,
-        gate,
-        &functions.compositions,
-        text,
-        functions,
-    )
+    crew.scan_lifted(&functions.compositions, text, functions)
 }
 
 // Whether the byte behind which a function stands begins a piece.
@@ -77,29 +59,19 @@ fn begun_behind(alloc: Global, compositions: &Compositions) -> Result<Vec<bool>,
 }
 
 // The places where functions stand that the list marks.
-fn places_of<G: Gate, R: Threads + Sync>(
-    rt: &R,
-    alloc: Global,
-    plan: &Plan,
-    gate: &G,
-    begun: &[bool],
-    codes: &[u16],
-) -> Result<Vec<u32>, AllocError>
+fn places_of(crew: &impl Passes, begun: &[bool], codes: &[u16]) -> Result<Vec<u32>, AllocError>
     requires len { length codes.now ≤ 2 ^ 32 }
     ensures { IfOk result (λ v. v.items ≡ places_where (λ code. slice_index_or begun.now code false) codes.now) }
 {
     let behind = |code: u16| -> bool
         ensures { result ≡ slice_index_or begun.entry.now code false }
     { begun.get(code as usize).copied().unwrap_or(false) };
-    positions(rt, alloc, plan, gate, codes, &behind)
+    crew.positions(codes, &behind)
 }
 
 // The places at which pieces begin, by the functions of the beginnings of the text.
-fn begins_by_functions<G: Gate, R: Threads + Sync>(
-    rt: &R,
-    alloc: Global,
-    plan: &Plan,
-    gate: &G,
+fn begins_by_functions(
+    crew: &impl Passes,
     functions: &ByFunctions,
     text: &[u8],
 ) -> Result<Vec<u32>, AllocError>
@@ -107,31 +79,22 @@ fn begins_by_functions<G: Gate, R: Threads + Sync>(
     requires automaton { functions.now.compositions.automaton ≡ lexer }
     ensures { IfOk result (λ v. v.items ≡ places_where (λ b. b) (begins_of text.now)) }
 {
-    let codes = codes(rt, alloc, plan, gate, functions, text)?;
-    let begun = begun_behind(alloc, &functions.compositions)?;
-    places_of(rt, alloc, plan, gate, begun.as_slice(), &codes[1..])
+    let codes = codes(crew, functions, text)?;
+    let begun = begun_behind(crew.alloc(), &functions.compositions)?;
+    places_of(crew, begun.as_slice(), &codes[1..])
 }
 
 // The places of the true marks.
-fn places_of_marks<G: Gate, R: Threads + Sync>(
-    rt: &R,
-    alloc: Global,
-    plan: &Plan,
-    gate: &G,
-    marks: &[bool],
-) -> Result<Vec<u32>, AllocError>
+fn places_of_marks(crew: &impl Passes, marks: &[bool]) -> Result<Vec<u32>, AllocError>
     requires len { length marks.now ≤ 2 ^ 32 }
     ensures { IfOk result (λ v. v.items ≡ places_where (λ b. b) marks.now) }
 {
-    positions(rt, alloc, plan, gate, marks, &|mark: bool| mark)
+    crew.positions(marks, &|mark: bool| mark)
 }
 
 // The places at which pieces begin, by vectors of states.
-pub(crate) fn begins_by_vectors<G: Gate, R: Threads + Sync>(
-    rt: &R,
-    alloc: Global,
-    plan: &Plan,
-    gate: &G,
+pub(crate) fn begins_by_vectors(
+    crew: &impl Passes,
     dfa: &Dfa,
     text: &[u8],
 ) -> Result<Vec<u32>, AllocError>
@@ -139,31 +102,23 @@ pub(crate) fn begins_by_vectors<G: Gate, R: Threads + Sync>(
     requires automaton { dfa.now ≡ lexer }
     ensures { IfOk result (λ v. v.items ≡ places_where (λ b. b) (begins_of text.now)) }
 {
-    let marks = marks_by_vectors(rt, alloc, plan, dfa, text)?;
-    places_of_marks(rt, alloc, plan, gate, marks.as_slice())
+    let marks = marks_by_vectors(crew, dfa, text)?;
+    places_of_marks(crew, marks.as_slice())
 }
 
 // The places at which pieces begin. Where the automaton's functions are too many to be numbered, which they aren't, vectors of its
 // states answer.
-pub(crate) fn begins<G: Gate, R: Threads + Sync>(
-    rt: &R,
-    alloc: Global,
-    plan: &Plan,
-    gate: &G,
-    text: &[u8],
-) -> Result<Vec<u32>, AllocError>
+pub(crate) fn begins(crew: &impl Passes, text: &[u8]) -> Result<Vec<u32>, AllocError>
     requires len { length text.now ≤ 2 ^ 32 }
     ensures { IfOk result (λ v. v.items ≡ places_where (λ b. b) (begins_of text.now)) }
 {
-    let dfa = automaton(alloc)?;
-    match Compositions::build(alloc, &dfa) {
+    let dfa = automaton(crew.alloc())?;
+    match Compositions::build(crew.alloc(), &dfa) {
         Ok(compositions) => {
             let functions = ByFunctions { compositions };
-            begins_by_functions(rt, alloc, plan, gate, &functions, text)
+            begins_by_functions(crew, &functions, text)
         }
-        Err(BuildFault::TooMany { reached: _ }) => {
-            begins_by_vectors(rt, alloc, plan, gate, &dfa, text)
-        }
+        Err(BuildFault::TooMany { reached: _ }) => { begins_by_vectors(crew, &dfa, text) }
         Err(BuildFault::NoMemory) => Err(AllocError),
     }
 }

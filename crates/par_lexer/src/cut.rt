@@ -8,33 +8,22 @@ ghost use Rattle.par_lexer.specs.PieceRows.{meaning_at, rows_from};
 use crate::begun::begins;
 use crate::meanings::Meaning;
 use crate::pieces::{Pieces, meaning_between};
-use chunk_seats::{Gate, Plan};
-use par_passes::tabulate;
-use std::alloc::{AllocError, Global};
-use std::thread::Threads;
+use par_passes::Passes;
+use std::alloc::AllocError;
 
 // The places where pieces begin, and the end of the text.
-fn boundaries<G: Gate, R: Threads + Sync>(
-    rt: &R,
-    alloc: Global,
-    plan: &Plan,
-    gate: &G,
-    text: &[u8],
-) -> Result<Vec<u32>, AllocError>
+fn boundaries(crew: &impl Passes, text: &[u8]) -> Result<Vec<u32>, AllocError>
     requires len { length text.now ≤ 2 ^ 24 }
     ensures { IfOk result (λ v. v.items ≡ boundaries_of 0 (pieces_of text.now)) }
 {
-    let mut bounds = begins(rt, alloc, plan, gate, text)?;
+    let mut bounds = begins(crew, text)?;
     bounds.push(text.len() as u32)?;
     Ok(bounds)
 }
 
 // What the piece between each place and the next one is.
-fn meanings<G: Gate, R: Threads + Sync>(
-    rt: &R,
-    alloc: Global,
-    plan: &Plan,
-    gate: &G,
+fn meanings(
+    crew: &impl Passes,
     text: &[u8],
     bounds: &[u32],
     count: u32,
@@ -46,22 +35,16 @@ fn meanings<G: Gate, R: Threads + Sync>(
         requires { k + 1 < length bounds.now }
         ensures { result ≡ neighbours (meaning_at text.entry.now) bounds.entry.now k }
     { meaning_between(text, bounds[k as usize], bounds[k as usize + 1]) };
-    tabulate(rt, alloc, plan, gate, count, &at)
+    crew.tabulate(count, &at)
 }
 
 // The pieces of a text.
-pub(crate) fn pieces<G: Gate, R: Threads + Sync>(
-    rt: &R,
-    alloc: Global,
-    plan: &Plan,
-    gate: &G,
-    text: &[u8],
-) -> Result<Pieces, AllocError>
+pub(crate) fn pieces(crew: &impl Passes, text: &[u8]) -> Result<Pieces, AllocError>
     requires len { length text.now ≤ 2 ^ 24 }
     ensures { IfOk result (λ p. p ≡ rows_from 0 (pieces_of text.now)) }
 {
-    let bounds = boundaries(rt, alloc, plan, gate, text)?;
+    let bounds = boundaries(crew, text)?;
     let count = bounds.len() as u32 - 1;
-    let meanings = meanings(rt, alloc, plan, gate, text, bounds.as_slice(), count)?;
+    let meanings = meanings(crew, text, bounds.as_slice(), count)?;
     Ok(Pieces::new(bounds, meanings))
 }

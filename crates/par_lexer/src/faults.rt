@@ -5,10 +5,8 @@ ghost use Rattle.par_lexer.specs.PieceRows.{is_fault as has_fault, row_at, fault
 
 use crate::meanings::Meaning;
 use crate::pieces::{Piece, Pieces};
-use chunk_seats::{Gate, Plan};
-use par_passes::{least, map, positions};
-use std::alloc::{AllocError, Global};
-use std::thread::Threads;
+use par_passes::Passes;
+use std::alloc::AllocError;
 
 // A diagnostic: its code, and the place of a byte.
 #[derive(Clone, Copy, PartialEq, Eq, Debug)]
@@ -43,35 +41,15 @@ fn key(piece: Piece) -> u64
 }
 
 // The numbers of the pieces that have a fault.
-fn faulty<G: Gate, R: Threads + Sync>(
-    rt: &R,
-    alloc: Global,
-    plan: &Plan,
-    gate: &G,
-    meanings: &[Meaning],
-) -> Result<Vec<u32>, AllocError>
+fn faulty(crew: &impl Passes, meanings: &[Meaning]) -> Result<Vec<u32>, AllocError>
     requires len { length meanings.now ≤ 2 ^ 32 }
     ensures { IfOk result (λ v. v.items ≡ places_where has_fault meanings.now) }
 {
-    positions(
-        rt,
-        alloc,
-        plan,
-        gate,
-        meanings,
-        &|meaning: Meaning| is_fault(meaning),
-    )
+    crew.positions(meanings, &|meaning: Meaning| is_fault(meaning))
 }
 
 // The keys of the pieces with these numbers.
-fn keys<G: Gate, R: Threads + Sync>(
-    rt: &R,
-    alloc: Global,
-    plan: &Plan,
-    gate: &G,
-    pieces: &Pieces,
-    numbers: &[u32],
-) -> Result<Vec<u64>, AllocError>
+fn keys(crew: &impl Passes, pieces: &Pieces, numbers: &[u32]) -> Result<Vec<u64>, AllocError>
     requires len { length numbers.now < 2 ^ 62 }
     requires inside { All (λ k. k < length pieces.now) numbers.now }
     ensures { IfOk result (λ v. v.items ≡ map (λ k. fault_key (row_at pieces.now k)) numbers.now) }
@@ -80,23 +58,17 @@ fn keys<G: Gate, R: Threads + Sync>(
         requires { k < length pieces.now }
         ensures { result ≡ fault_key (row_at pieces.entry.now k) }
     { key(pieces.piece(k)) };
-    map(rt, alloc, plan, gate, numbers, &key_of)
+    crew.map(numbers, &key_of)
 }
 
 // The least key of pieces.
-pub(crate) fn least_key<G: Gate, R: Threads + Sync>(
-    rt: &R,
-    alloc: Global,
-    plan: &Plan,
-    gate: &G,
-    pieces: &Pieces,
-) -> Result<u64, AllocError>
+pub(crate) fn least_key(crew: &impl Passes, pieces: &Pieces) -> Result<u64, AllocError>
     requires len { length pieces.now ≤ 2 ^ 32 }
     ensures { IfOk result (λ m. m ≡ fold min no_fault (map fault_key pieces.now)) }
 {
-    let faulty = faulty(rt, alloc, plan, gate, pieces.meanings())?;
-    let keys = keys(rt, alloc, plan, gate, pieces, faulty.as_slice())?;
-    least(rt, alloc, plan, gate, keys.as_slice())
+    let faulty = faulty(crew, pieces.meanings())?;
+    let keys = keys(crew, pieces, faulty.as_slice())?;
+    crew.least(keys.as_slice())
 }
 
 // The diagnostic that a key stands for.

@@ -9,36 +9,19 @@ use crate::fault::LexFault;
 use crate::faults::{Diagnostic, least_key, told_by};
 use crate::kept::tokens;
 use ast_rows::Tokens;
-use chunk_seats::{Gate, Plan};
-use par_passes::Workers;
-use std::alloc::Global;
-use std::thread::Threads;
+use par_passes::Passes;
 
-/// The tokens of a text of at most 2^24 bytes, or its first fault. They are the same for every plan and gate. The only other refusal
-/// is that memory is out.
-pub fn lex<G: Gate, R: Threads + Sync>(
-    rt: &R,
-    alloc: Global,
-    plan: &Plan,
-    gate: &G,
-    text: &[u8],
-) -> Result<Tokens, LexFault>
+/// The tokens of a text of at most 2^24 bytes, or its first fault. They are the same for every crew. The only other refusal is that
+/// memory is out.
+pub fn lex(crew: &impl Passes, text: &[u8]) -> Result<Tokens, LexFault>
     requires len { length text.now ≤ 2 ^ 24 }
     ensures ok { IfOk result (λ t. (lexical_fault text.now ≡ None) × (t ≡ map row_of (tokens_of text.now))) }
     ensures fault { (code at : ℕ) → result ≡ Err (Told code at) → lexical_fault text.now ≡ Some (code, at) }
 {
-    let pieces = pieces(rt, alloc, plan, gate, text)?;
-    let key = least_key(rt, alloc, plan, gate, &pieces)?;
+    let pieces = pieces(crew, text)?;
+    let key = least_key(crew, &pieces)?;
     match told_by(key) {
         Some(Diagnostic { code, at }) => Err(LexFault::Diagnostic { code, at }),
-        None => Ok(tokens(
-            &Workers {
-                runtime: rt,
-                alloc,
-                plan: *plan,
-                gate,
-            },
-            &pieces,
-        )?),
+        None => Ok(tokens(crew, &pieces)?),
     }
 }

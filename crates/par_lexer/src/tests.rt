@@ -5,6 +5,7 @@ use super::*;
 use crate::automaton::automaton;
 use crate::begun::{begins, begins_by_vectors};
 use chunk_seats::{Gate, OpenGate, Plan};
+use par_passes::Workers;
 use source_meaning::Terminal;
 use state_monoid::Compositions;
 use std::alloc::Global;
@@ -27,17 +28,31 @@ const PLANS: [(u32, u32); 11] = [
     (64, 65536),
 ];
 
-// The terminals, places and lengths of a text's tokens.
-fn tokens_are<R: Threads + Abort + Sync>(
+// So many workers, with a gate that is open.
+fn crew<R: Threads + Sync>(
     rt: &R,
     alloc: Global,
-    plan: &Plan,
+    workers: u32,
+    chunk: u32,
+) -> Result<Workers<R, OpenGate>, Fail> {
+    Ok(Workers {
+        runtime: rt,
+        alloc,
+        plan: Plan::new(workers, chunk).ok_or("in range")?,
+        gate: &OpenGate,
+    })
+}
+
+// The terminals, places and lengths of a text's tokens.
+fn tokens_are<R: Threads + Abort + Sync>(
+    crew: &Workers<R, OpenGate>,
     text: &[u8],
     expected: &[(Terminal, u32, u32)],
 ) -> Result<(), Fail>
     requires len { length text.now ≤ 2 ^ 24 }
 {
-    let Ok(tokens) = lex(rt, alloc, plan, &OpenGate, text) else {
+    let rt = crew.runtime;
+    let Ok(tokens) = lex(crew, text) else {
         return Err("a fault".into());
     };
     let (kinds, starts, lengths) = (tokens.kinds(), tokens.starts(), tokens.lengths());
@@ -50,16 +65,15 @@ fn tokens_are<R: Threads + Abort + Sync>(
 
 // The diagnostic of a text.
 fn fault_is<R: Threads + Abort + Sync>(
-    rt: &R,
-    alloc: Global,
-    plan: &Plan,
+    crew: &Workers<R, OpenGate>,
     text: &[u8],
     code: u16,
     at: u32,
 ) -> Result<(), Fail>
     requires len { length text.now ≤ 2 ^ 24 }
 {
-    match lex(rt, alloc, plan, &OpenGate, text) {
+    let rt = crew.runtime;
+    match lex(crew, text) {
         Ok(_) => Err("no fault".into()),
         Err(fault) => {
             assert_eq!(rt; fault, LexFault::Diagnostic { code, at });
@@ -92,30 +106,28 @@ const COMPARED: [(Terminal, u32, u32); 5] = [
 
 #[test]
 fn tokens_of_every_plan(rt: HostRuntime) -> Result<(), Fail> {
-    let alloc = rt.alloc();
     for (workers, chunk) in PLANS {
-        let plan = Plan::new(workers, chunk).ok_or("in range")?;
+        let crew = crew(&rt, rt.alloc(), workers, chunk)?;
         let function = b"fn main(): int { return 7; } // end";
-        tokens_are(&rt, alloc, &plan, function, &FUNCTION)?;
-        tokens_are(&rt, alloc, &plan, b"1<=2 == true", &COMPARED)?;
-        tokens_are(&rt, alloc, &plan, b"", &[])?;
-        tokens_are(&rt, alloc, &plan, b"7// end", &[(Terminal::Digits, 0, 1)])?;
-        tokens_are(&rt, alloc, &plan, b"7// end\n", &[(Terminal::Digits, 0, 1)])?;
+        tokens_are(&crew, function, &FUNCTION)?;
+        tokens_are(&crew, b"1<=2 == true", &COMPARED)?;
+        tokens_are(&crew, b"", &[])?;
+        tokens_are(&crew, b"7// end", &[(Terminal::Digits, 0, 1)])?;
+        tokens_are(&crew, b"7// end\n", &[(Terminal::Digits, 0, 1)])?;
         let large = [(Terminal::Digits, 0, 10)];
-        tokens_are(&rt, alloc, &plan, b"2147483647", &large)?;
+        tokens_are(&crew, b"2147483647", &large)?;
     }
     Ok(())
 }
 
 #[test]
 fn faults_of_every_plan(rt: HostRuntime) -> Result<(), Fail> {
-    let alloc = rt.alloc();
     for (workers, chunk) in PLANS {
-        let plan = Plan::new(workers, chunk).ok_or("in range")?;
-        fault_is(&rt, alloc, &plan, b"2147483648 $", 102, 0)?;
-        fault_is(&rt, alloc, &plan, b"$ 2147483648", 101, 0)?;
-        fault_is(&rt, alloc, &plan, b"7 0002147483648", 102, 2)?;
-        fault_is(&rt, alloc, &plan, b"7\x00\x80", 101, 1)?;
+        let crew = crew(&rt, rt.alloc(), workers, chunk)?;
+        fault_is(&crew, b"2147483648 $", 102, 0)?;
+        fault_is(&crew, b"$ 2147483648", 101, 0)?;
+        fault_is(&crew, b"7 0002147483648", 102, 2)?;
+        fault_is(&crew, b"7\x00\x80", 101, 1)?;
     }
     Ok(())
 }
@@ -146,8 +158,8 @@ fn chunks_cut_anywhere(rt: HostRuntime) -> Result<(), Fail> {
     let mut expected = Vec::from_slice(alloc, &CLASSES)?;
     expected.push((Terminal::Ident, 33, 3))?;
     for chunk in 1..37 {
-        let plan = Plan::new(3, chunk).ok_or("in range")?;
-        tokens_are(&rt, alloc, &plan, EVERY_CLASS, &expected)?;
+        let crew = crew(&rt, alloc, 3, chunk)?;
+        tokens_are(&crew, EVERY_CLASS, &expected)?;
     }
     Ok(())
 }
@@ -156,38 +168,26 @@ fn chunks_cut_anywhere(rt: HostRuntime) -> Result<(), Fail> {
 #[test]
 fn long_pieces(rt: HostRuntime) -> Result<(), Fail> {
     let alloc = rt.alloc();
-    let plan = Plan::new(4, 1024).ok_or("in range")?;
+    let crew = crew(&rt, alloc, 4, 1024)?;
     let name = vec![in alloc; b'a'; 1_048_576]?;
-    tokens_are(&rt, alloc, &plan, &name, &[(Terminal::Ident, 0, 1_048_576)])?;
+    tokens_are(&crew, &name, &[(Terminal::Ident, 0, 1_048_576)])?;
     let zeros = vec![in alloc; b'0'; 1_048_576]?;
-    tokens_are(
-        &rt,
-        alloc,
-        &plan,
-        &zeros,
-        &[(Terminal::Digits, 0, 1_048_576)],
-    )?;
+    tokens_are(&crew, &zeros, &[(Terminal::Digits, 0, 1_048_576)])?;
     let comment = vec![in alloc; b'/'; 1_048_576]?;
-    tokens_are(&rt, alloc, &plan, &comment, &[])?;
+    tokens_are(&crew, &comment, &[])?;
     let ones = vec![in alloc; b'1'; 1_048_576]?;
-    fault_is(&rt, alloc, &plan, &ones, 102, 0)
+    fault_is(&crew, &ones, 102, 0)
 }
 
 // Bytes that begin no lexeme, in comments and out of them.
 #[test]
 fn bytes_of_no_lexeme(rt: HostRuntime) -> Result<(), Fail> {
-    let alloc = rt.alloc();
-    let plan = Plan::new(4, 2).ok_or("in range")?;
+    let crew = crew(&rt, rt.alloc(), 4, 2)?;
     for byte in 127..=255u8 {
         let byte = if byte == 127 { 0 } else { byte };
-        fault_is(&rt, alloc, &plan, &[b'7', byte], 101, 1)?;
-        tokens_are(
-            &rt,
-            alloc,
-            &plan,
-            &[b'/', b'/', byte, b'\n', b'7'],
-            &[(Terminal::Digits, 4, 1)],
-        )?;
+        fault_is(&crew, &[b'7', byte], 101, 1)?;
+        let comment = [b'/', b'/', byte, b'\n', b'7'];
+        tokens_are(&crew, &comment, &[(Terminal::Digits, 4, 1)])?;
     }
     Ok(())
 }
@@ -196,11 +196,11 @@ fn bytes_of_no_lexeme(rt: HostRuntime) -> Result<(), Fail> {
 fn vectors_say_the_same(rt: HostRuntime) -> Result<(), Fail> {
     let alloc = rt.alloc();
     let dfa = automaton(alloc)?;
-    let plan = Plan::new(4, 7).ok_or("in range")?;
-    let by_functions = begins(&rt, alloc, &plan, &OpenGate, EVERY_CLASS)?;
+    let four = crew(&rt, alloc, 4, 7)?;
+    let by_functions = begins(&four, EVERY_CLASS)?;
     for (workers, chunk) in PLANS {
-        let plan = Plan::new(workers, chunk).ok_or("in range")?;
-        let by_vectors = begins_by_vectors(&rt, alloc, &plan, &OpenGate, &dfa, EVERY_CLASS)?;
+        let crew = crew(&rt, alloc, workers, chunk)?;
+        let by_vectors = begins_by_vectors(&crew, &dfa, EVERY_CLASS)?;
         assert!(rt; by_vectors == by_functions);
     }
     let Ok(compositions) = Compositions::build(alloc, &dfa) else {
@@ -212,10 +212,11 @@ fn vectors_say_the_same(rt: HostRuntime) -> Result<(), Fail> {
     Ok(())
 }
 
-// The first worker that draws chunk 0 waits until the other has drawn too, for so many turns at most.
+// In each pass the worker that draws chunk 0 waits until the other has drawn too, for so many turns at most. A worker's step counts the passes
+// that it began and those that it ended; one that finds no chunk at once has not begun.
 #[derive(Drop)]
 struct Meeting {
-    claims: [AtomicU64; 2],
+    steps: [AtomicU64; 2],
     met: AtomicU64,
     alone: AtomicU64,
 }
@@ -225,12 +226,16 @@ const TURNS: u64 = 1 << 26;
 impl Gate for Meeting {
     fn after_claim(&self, worker: u32, chunk: Option<u64>) {
         let (mine, other) = if worker == 0 { (0, 1) } else { (1, 0) };
-        self.claims[mine].fetch_add(1, Ordering::SeqCst);
+        let step = self.steps[mine].load(Ordering::SeqCst);
+        let at_work = step % 2 == 1;
+        if chunk.is_some() != at_work {
+            self.steps[mine].fetch_add(1, Ordering::SeqCst);
+        }
         if chunk != Some(0) {
             return;
         }
         for _ in 0..TURNS {
-            if self.claims[other].load(Ordering::SeqCst) > 0 {
+            if self.steps[other].load(Ordering::SeqCst) > step {
                 self.met.fetch_add(1, Ordering::SeqCst);
                 return;
             }
@@ -240,18 +245,24 @@ impl Gate for Meeting {
 }
 
 #[test]
-fn two_workers_meet(rt: HostRuntime) -> Result<(), Fail> {
-    let plan = Plan::new(2, 1).ok_or("in range")?;
+fn two_workers_meet_in_every_pass(rt: HostRuntime) -> Result<(), Fail> {
     let gate = Meeting {
-        claims: [AtomicU64::new(0), AtomicU64::new(0)],
+        steps: [AtomicU64::new(0), AtomicU64::new(0)],
         met: AtomicU64::new(0),
         alone: AtomicU64::new(0),
     };
-    let Ok(tokens) = lex(&rt, rt.alloc(), &plan, &gate, b"a b") else {
+    let crew = Workers {
+        runtime: &rt,
+        alloc: rt.alloc(),
+        plan: Plan::new(2, 1).ok_or("in range")?,
+        gate: &gate,
+    };
+    let Ok(tokens) = lex(&crew, b"a b") else {
         return Err("a fault".into());
     };
     assert_eq!(rt; tokens.len(), 2);
+    // a scan, the pieces' places and meanings, the faulty ones, the tokens' numbers and their three columns
+    assert_eq!(rt; gate.met.load(Ordering::SeqCst), 8);
     assert_eq!(rt; gate.alone.load(Ordering::SeqCst), 0);
-    assert!(rt; gate.met.load(Ordering::SeqCst) > 0);
     Ok(())
 }

@@ -9,9 +9,10 @@ ghost use Rattle.par_lexer.specs.Table.{lexer};
 
 use crate::automaton::{NOTHING, is_begun};
 use chunk_seats::Plan;
+use par_passes::Passes;
 use state_monoid::{Dfa, States};
-use std::alloc::{AllocError, Global};
-use std::thread::{Threads, for_each_chunk_mut, map_chunks};
+use std::alloc::AllocError;
+use std::thread::{for_each_chunk_mut, map_chunks};
 
 // How many bytes a part has: those of a chunk, or more, so that no worker has two parts.
 fn part_size(plan: &Plan, len: usize) -> usize
@@ -21,9 +22,8 @@ fn part_size(plan: &Plan, len: usize) -> usize
 }
 
 // The function of each part.
-fn functions<R: Threads + Sync>(
-    rt: &R,
-    alloc: Global,
+fn functions(
+    crew: &impl Passes,
     dfa: &Dfa,
     text: &[u8],
     size: usize,
@@ -35,24 +35,18 @@ fn functions<R: Threads + Sync>(
     let function = |_: usize, part: &[u8]| -> States
         ensures { result ≡ image dfa.entry.now part.entry.now }
     { dfa.of_bytes(part) };
-    map_chunks(rt, alloc, text, size, &function)
+    map_chunks(crew.runtime(), crew.alloc(), text, size, &function)
 }
 
 // The state before each part, by the functions of the parts before it, composed in order.
-fn starts<R: Threads + Sync>(
-    rt: &R,
-    alloc: Global,
-    dfa: &Dfa,
-    text: &[u8],
-    size: usize,
-) -> Result<Vec<u32>, AllocError>
+fn starts(crew: &impl Passes, dfa: &Dfa, text: &[u8], size: usize) -> Result<Vec<u32>, AllocError>
     requires automaton { dfa.now ≡ lexer }
     requires size { 0 < size }
     ensures each { IfOk result (λ v. v.items ≡ map (λ c. run lexer 0 (take (c * size) text.now)) (range_with_len 0 (length v.items))) }
     ensures all { IfOk result (λ v. (c : ℕ) → c * size < length text.now → c < length v.items) }
 {
-    let functions = functions(rt, alloc, dfa, text, size)?;
-    let mut starts = Vec::with_capacity(alloc, functions.len())?;
+    let functions = functions(crew, dfa, text, size)?;
+    let mut starts = Vec::with_capacity(crew.alloc(), functions.len())?;
     let mut before = States::identity(dfa);
     for function in &functions {
         starts.push(before.apply(u32::from(NOTHING)))?;
@@ -89,8 +83,8 @@ fn mark_part(dfa: &Dfa, text: &[u8], size: usize, starts: &[u32], from: usize, b
 }
 
 // The same for all parts, each by a worker.
-fn mark_parts<R: Threads + Sync>(
-    rt: &R,
+fn mark_parts(
+    crew: &impl Passes,
     dfa: &Dfa,
     text: &[u8],
     size: usize,
@@ -108,15 +102,13 @@ fn mark_parts<R: Threads + Sync>(
         requires { (dfa.now ≡ lexer) × (starts.now ≡ map (λ c. run lexer 0 (take (c * size) text.now)) (range_with_len 0 (length starts.now))) × ((c : ℕ) → c * size < length text.now → c < length starts.now) × (0 < size) × (from % size ≡ 0) × (0 < length piece.now) × (from + length piece.now ≤ length text.now) }
         ensures { piece.exit.now ≡ take (length piece.entry.now) (drop from (begins_of text.entry.now)) }
     { mark_part(dfa, text, size, starts, from, piece) };
-    for_each_chunk_mut(rt, begins, size, &part);
+    for_each_chunk_mut(crew.runtime(), begins, size, &part);
 }
 
 // Whether each byte begins a piece. Workers make the function of each part, one composes these in order, and workers run each part from
 // the state before it. Where there is one part, one run of the automaton answers.
-pub(crate) fn marks_by_vectors<R: Threads + Sync>(
-    rt: &R,
-    alloc: Global,
-    plan: &Plan,
+pub(crate) fn marks_by_vectors(
+    crew: &impl Passes,
     dfa: &Dfa,
     text: &[u8],
 ) -> Result<Vec<bool>, AllocError>
@@ -124,13 +116,13 @@ pub(crate) fn marks_by_vectors<R: Threads + Sync>(
     requires automaton { dfa.now ≡ lexer }
     ensures { IfOk result (λ v. v.items ≡ begins_of text.now) }
 {
-    let size = part_size(plan, text.len());
-    let mut begins = vec![in alloc; false; text.len()]?;
+    let size = part_size(&crew.plan(), text.len());
+    let mut begins = vec![in crew.alloc(); false; text.len()]?;
     if text.len() <= size {
         mark(dfa, u32::from(NOTHING), text, begins.as_mut_slice());
         return Ok(begins);
     }
-    let starts = starts(rt, alloc, dfa, text, size)?;
-    mark_parts(rt, dfa, text, size, &starts, begins.as_mut_slice());
+    let starts = starts(crew, dfa, text, size)?;
+    mark_parts(crew, dfa, text, size, &starts, begins.as_mut_slice());
     Ok(begins)
 }
