@@ -48,14 +48,13 @@ fn map_in_turn<T: Copy, U: Copy, F: Fn(T) -> U, G: Gate>(
 
 /// What the function gives for each item, in the items' order. It is called once for each item. Where it computes, the list is the same for
 /// every plan and gate. The only refusal is that memory is out.
-pub fn map<T: Copy + Sync, U: Copy + Send + Sync, F: Fn(T) -> U + Sync, G: Gate, R: Threads + Sync>(
-    rt: &R,
-    alloc: Global,
-    plan: &Plan,
-    gate: &G,
-    items: &[T],
-    f: &F,
-) -> Result<Vec<U>, AllocError>
+pub(crate) fn map<
+    T: Copy + Sync,
+    U: Copy + Send + Sync,
+    F: Fn(T) -> U + Sync,
+    G: Gate,
+    R: Threads + Sync,
+>(rt: &R, alloc: Global, plan: &Plan, gate: &G, items: &[T], f: &F) -> Result<Vec<U>, AllocError>
     requires len { length items.now < 2 ^ 62 }
     requires callable { All (F.pre f.now) items.now }
     ensures len { IfOk result (λ v. length v.items ≡ length items.now) }
@@ -71,7 +70,7 @@ pub fn map<T: Copy + Sync, U: Copy + Send + Sync, F: Fn(T) -> U + Sync, G: Gate,
 }
 
 /// The same for a function that contracts can name.
-pub fn map_lifted<
+pub(crate) fn map_lifted<
     T: Copy + Sync,
     U: Copy + Send + Sync,
     L: Lift<T, U> + Sync,

@@ -134,7 +134,7 @@ fn run<G: Gate, R: Threads + Sync>(
 
 /// The least of the keys, and `u64::MAX` where there is none. It is the same for every plan and gate. The only refusal is that memory
 /// is out.
-pub fn least<G: Gate, R: Threads + Sync>(
+pub(crate) fn least<G: Gate, R: Threads + Sync>(
     rt: &R,
     alloc: Global,
     plan: &Plan,

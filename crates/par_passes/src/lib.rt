@@ -14,15 +14,8 @@ mod order;
 mod passes;
 mod places;
 
-pub use each::{map, map_lifted};
-pub use fewest::least;
-pub use marked::compact;
-pub use numbered::{positions, tabulate};
-pub use order::sorted;
 pub use passes::{Passes, Workers};
-pub use places::gather;
-pub use scan_lookback::{Lift, scan, scan_lifted};
-pub use scatter_rows::scatter;
+pub use scan_lookback::{Lift, Lifted};
 
 #[cfg(test)]
 mod callers;

@@ -87,7 +87,7 @@ fn keep_in_turn<T: Copy, G: Gate>(
 }
 
 /// The items that are marked, in the items' order. It is the same for every plan and gate. The only refusal is that memory is out.
-pub fn compact<T: Copy + Send + Sync, G: Gate, R: Threads + Sync>(
+pub(crate) fn compact<T: Copy + Send + Sync, G: Gate, R: Threads + Sync>(
     rt: &R,
     alloc: Global,
     plan: &Plan,

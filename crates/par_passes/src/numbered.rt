@@ -84,7 +84,7 @@ fn find_in_turn<T: Copy, F: Fn(T) -> bool, G: Gate>(
 
 /// The places of the items for which the function says true, in order. They are the same for every plan and gate. The only refusal is
 /// that memory is out.
-pub fn positions<T: Copy + Sync, F: Fn(T) -> bool + Sync, G: Gate, R: Threads + Sync>(
+pub(crate) fn positions<T: Copy + Sync, F: Fn(T) -> bool + Sync, G: Gate, R: Threads + Sync>(
     rt: &R,
     alloc: Global,
     plan: &Plan,
@@ -242,7 +242,7 @@ fn tabulate_in_chunks<U: Copy + Send + Sync, F: Fn(u32) -> U + Sync, G: Gate, R:
 
 /// What the function gives for each number below `count`, in order. It is called once for each number. Where it computes, the list is the
 /// same for every plan and gate. The only refusal is that memory is out.
-pub fn tabulate<U: Copy + Send + Sync, F: Fn(u32) -> U + Sync, G: Gate, R: Threads + Sync>(
+pub(crate) fn tabulate<U: Copy + Send + Sync, F: Fn(u32) -> U + Sync, G: Gate, R: Threads + Sync>(
     rt: &R,
     alloc: Global,
     plan: &Plan,

@@ -8,7 +8,7 @@ use std::thread::Threads;
 
 /// The keys in ascending order. It is the same for every plan where no two keys are equal; equal keys may change places. One worker,
 /// and keys of one chunk, are sorted in the caller's thread. The only refusal is that memory is out.
-pub fn sorted<K: Copy + Ord + Send, R: Threads + Sync>(
+pub(crate) fn sorted<K: Copy + Ord + Send, R: Threads + Sync>(
     rt: &R,
     alloc: Global,
     plan: &Plan,

@@ -8,7 +8,7 @@ use std::thread::Threads;
 
 /// The item at each of the places, in the places' order. It is the same for every plan and gate. The only refusal is that memory is
 /// out.
-pub fn gather<T: Copy + Send + Sync, G: Gate, R: Threads + Sync>(
+pub(crate) fn gather<T: Copy + Send + Sync, G: Gate, R: Threads + Sync>(
     rt: &R,
     alloc: Global,
     plan: &Plan,
