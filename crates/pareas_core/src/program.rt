@@ -12,6 +12,7 @@ use crate::status::Status;
 use crate::writing::write_all;
 use chunk_seats::Gate;
 use command_line::{Command, Refusal, Request, read};
+use par_passes::Workers;
 use std::alloc::Global;
 use std::thread::Threads;
 
@@ -64,7 +65,13 @@ pub fn pareas<R: Threads + Sync, I: ByteIn, O: ByteOut, E: ByteOut, G: Gate>(
         Err(ReadError::Failed) => return Status::ReadFault,
         Err(ReadError::NoMemory) => return Status::NoMemory,
     };
-    let Ok(response) = respond(rt, alloc, &plan, gate, command, &bytes) else {
+    let crew = Workers {
+        runtime: rt,
+        alloc,
+        plan,
+        gate,
+    };
+    let Ok(response) = respond(&crew, command, &bytes) else {
         return Status::NoMemory;
     };
     deliver(&response, out, notes)

@@ -13,11 +13,10 @@ use crate::refusal::Refusal;
 use crate::status::Status;
 use crate::table::table;
 use crate::writing::write_all;
-use chunk_seats::{Gate, Plan};
 use command_line::Command;
+use par_passes::Passes;
 use std::alloc::{AllocError, Global};
 use std::marker::Model;
-use std::thread::Threads;
 use verdict::one_verdict;
 
 /// The status, and the bytes for the output and for the notes.
@@ -48,62 +47,46 @@ fn not_yet(alloc: Global) -> Result<Response, AllocError>
 }
 
 // The image of the source.
-fn build<R: Threads + Sync, G: Gate>(
-    rt: &R,
-    alloc: Global,
-    plan: &Plan,
-    gate: &G,
-    source: &[u8],
-) -> Result<Response, AllocError>
+fn build(crew: &impl Passes, source: &[u8]) -> Result<Response, AllocError>
     ensures { IfOk result (λ response. IsResponse Build source.now response) }
 {
     one_verdict();
-    match compile(rt, alloc, plan, gate, source) {
+    match compile(crew, source) {
         Ok(file) => Ok(Response {
             status: Status::Done,
             out: file,
-            notes: Vec::new(alloc),
+            notes: Vec::new(crew.alloc()),
         }),
-        Err(Refusal::NotYet) => not_yet(alloc),
+        Err(Refusal::NotYet) => not_yet(crew.alloc()),
         Err(Refusal::NoMemory) => Err(AllocError),
     }
 }
 
 // How the image of the source runs.
-fn run<R: Threads + Sync, G: Gate>(
-    rt: &R,
-    alloc: Global,
-    plan: &Plan,
-    gate: &G,
-    source: &[u8],
-    steps: u32,
-) -> Result<Response, AllocError>
+fn run(crew: &impl Passes, source: &[u8], steps: u32) -> Result<Response, AllocError>
     ensures { IfOk result (λ response. IsResponse (Run steps) source.now response) }
 {
     one_verdict();
-    match compile(rt, alloc, plan, gate, source) {
-        Ok(file) => emulate(alloc, &file, steps),
-        Err(Refusal::NotYet) => not_yet(alloc),
+    match compile(crew, source) {
+        Ok(file) => emulate(crew.alloc(), &file, steps),
+        Err(Refusal::NotYet) => not_yet(crew.alloc()),
         Err(Refusal::NoMemory) => Err(AllocError),
     }
 }
 
 /// The answer to a command for the bytes that it read.
-pub(crate) fn respond<R: Threads + Sync, G: Gate>(
-    rt: &R,
-    alloc: Global,
-    plan: &Plan,
-    gate: &G,
+pub(crate) fn respond(
+    crew: &impl Passes,
     command: Command,
     bytes: &[u8],
 ) -> Result<Response, AllocError>
     ensures { IfOk result (λ response. IsResponse command bytes.now response) }
 {
     match command {
-        Command::Build => build(rt, alloc, plan, gate, bytes),
-        Command::Run { steps } => run(rt, alloc, plan, gate, bytes, steps),
-        Command::Emu { steps } => emulate(alloc, bytes, steps),
-        Command::Table => table(alloc, bytes),
+        Command::Build => build(crew, bytes),
+        Command::Run { steps } => run(crew, bytes, steps),
+        Command::Emu { steps } => emulate(crew.alloc(), bytes, steps),
+        Command::Table => table(crew.alloc(), bytes),
     }
 }
 
