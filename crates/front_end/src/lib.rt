@@ -1,0 +1,14 @@
+//! The front of the compiler: the tokens of a source, the rows of its syntax tree, its names and its types, or its first diagnostic.
+#![tactic(auto)]
+
+mod analysis;
+mod laws;
+mod phases;
+mod places;
+mod refusal;
+mod tables;
+mod words;
+
+pub use analysis::{Analysis, MOST_SOURCE, front};
+pub use laws::limits_come_last;
+pub use refusal::Refusal;
