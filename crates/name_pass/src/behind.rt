@@ -35,7 +35,7 @@ pub(crate) fn minima_of_ends(
     ensures { IfOk result (λ m. m ≡ map (end_of_key rows.now) keys.now) }
 {
     let ends = ends(crew, rows, keys)?;
-    Minima::of(crew, &ends)
+    Minima::build(crew, &ends)
 }
 
 /// The last declaration before a row's place whose row's parent stands behind the row.
