@@ -11,4 +11,8 @@ mod words;
 
 pub use analysis::{Analysis, MOST_SOURCE, front};
 pub use laws::limits_come_last;
+pub use places::place;
 pub use refusal::Refusal;
+
+#[cfg(test)]
+mod tests;

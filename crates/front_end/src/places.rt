@@ -14,7 +14,7 @@ fn number_or(numbers: &[u32], place: u64, none: u32) -> u32
 }
 
 /// The place of the first byte of a token; the end of the source stands behind the last one.
-pub(crate) fn place(source: &[u8], tokens: &Tokens, token: u64) -> u32
+pub fn place(source: &[u8], tokens: &Tokens, token: u64) -> u32
     requires { length source.now ≤ 2 ^ 24 }
     ensures { AreTokens source.now tokens.now → result ≡ place_of source.now (tokens_of source.now) token }
 {
