@@ -219,3 +219,110 @@ fn sources_have_a_limit(rt: HostRuntime) -> Result<(), Fail> {
     }
     Ok(())
 }
+
+// A function main with so many copies of a piece between a beginning and an end.
+fn repeated(
+    alloc: Global,
+    beginning: &[u8],
+    piece: &[u8],
+    count: u32,
+    end: &[u8],
+    ends: u32,
+) -> Result<Vec<u8>, Fail> {
+    let mut text = b"fn main(): int { ".to_vec(alloc)?;
+    text.extend_from_slice(beginning)?;
+    for _ in 0..count {
+        text.extend_from_slice(piece)?;
+    }
+    for _ in 0..ends {
+        text.extend_from_slice(end)?;
+    }
+    text.extend_from_slice(b"return x; }")?;
+    Ok(text)
+}
+
+// A function main that declares so many variables, each of another name, and uses the last one.
+fn many_names(alloc: Global, count: u32) -> Result<Vec<u8>, Fail> {
+    let mut text = b"fn main(): int { var x: int = 0; ".to_vec(alloc)?;
+    for n in 0..count {
+        let declaration = format!(in alloc; "var x{n}: int = x; ")?;
+        text.extend_from_slice(declaration.as_bytes())?;
+    }
+    text.extend_from_slice(b"return x; }")?;
+    Ok(text)
+}
+
+// Two names of a thousand bytes that differ in the last one, of which the second is used and not declared.
+fn long_names(alloc: Global) -> Result<Vec<u8>, Fail> {
+    let name = vec![in alloc; b'n'; 999]?;
+    let mut text = b"fn main(): int { var ".to_vec(alloc)?;
+    text.extend_from_slice(name.as_slice())?;
+    text.extend_from_slice(b"a: int = 1; return ")?;
+    text.extend_from_slice(name.as_slice())?;
+    text.extend_from_slice(b"b; }")?;
+    Ok(text)
+}
+
+#[test]
+fn names_in_great_numbers(rt: HostRuntime) -> Result<(), Fail> {
+    let alloc = rt.alloc();
+    let crew = Workers {
+        runtime: &rt,
+        alloc,
+        plan: Plan::new(4, 1024).ok_or("in range")?,
+        gate: &OpenGate,
+    };
+    let nested = repeated(
+        alloc,
+        b"var x: int = 1; ",
+        b"{ var x: int = x; ",
+        1_000,
+        b"} ",
+        1_000,
+    )?;
+    let apart = repeated(
+        alloc,
+        b"var x: int = 1; ",
+        b"{ var x: int = x; } ",
+        5_000,
+        b"",
+        0,
+    )?;
+    let many = many_names(alloc, 5_000)?;
+    for source in [nested.as_slice(), apart.as_slice(), many.as_slice()] {
+        match front(&crew, source) {
+            Ok(_) => {}
+            Err(_) => assert!(rt; false),
+        }
+    }
+    let again = repeated(
+        alloc,
+        b"var x: int = 1; ",
+        b"{ var x: int = x; } ",
+        5_000,
+        b"var x: int = 2; ",
+        1,
+    )?;
+    match front(&crew, again.as_slice()) {
+        Ok(_) => assert!(rt; false),
+        Err(refusal) => assert_eq!(rt;
+            refusal,
+            Refusal::Diagnostic {
+                code: 402,
+                at: 100_037
+            }
+        ),
+    }
+    let long = long_names(alloc)?;
+    match front(&crew, long.as_slice()) {
+        Ok(_) => assert!(rt; false),
+        Err(refusal) => assert_eq!(rt;
+            refusal,
+            Refusal::Diagnostic {
+                code: 403,
+                at: 1_039
+            }
+        ),
+    }
+    Ok(())
+}
