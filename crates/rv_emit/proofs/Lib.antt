@@ -1,0 +1,6 @@
+mod Lists
+mod Bounds
+mod Parts
+mod Placed
+mod Whole
+mod Ready

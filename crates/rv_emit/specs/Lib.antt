@@ -1,0 +1,5 @@
+pub mod Counted
+pub mod Put
+pub mod Meanings
+pub mod OfColumns
+pub mod Compilable

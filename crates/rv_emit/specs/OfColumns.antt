@@ -1,0 +1,88 @@
+-- The columns of a program's rows, and what is made of them.
+use Rattle.std.specs.Prelude.{◌≡◌, ℕ, ◌-◌, ◌<◌, zero, suc, List, length, map, flat_map, slice_index_or, Option}
+use Rattle.std.specs.List.{range_with_len}
+use Rattle.chunk_seats.specs.Chunks.{chunk_of}
+use Rattle.rv_isa.specs.Encoding.{word}
+use Rattle.rv_isa.specs.declared.instructions.Instr.{Instr}
+use Rattle.source_meaning.specs.Ast.{Program}
+use Rattle.source_meaning.specs.declared.kinds.Kind.{Kind}
+use Rattle.code_rules.specs.RowPieces.{piece_by, start_size}
+use Rattle.code_rules.specs.RowTables.{head_by}
+use Rattle.rv_select.specs.declared.columns.Columns.{Columns}
+use Rattle.rv_select.specs.declared.referred.Places.{Places}
+use Rattle.rv_select.specs.Columns as columns
+use Rattle.rv_select.specs.Knowns.{known_of, start_of}
+use Rattle.rv_select.specs.Layout as layout
+use Rattle.rv_select.specs.Accepted as accepted
+use Rattle.rv_select.specs.Referred as referred
+
+module _ (c : Columns) where
+  abbrev pub rows_of : List ℕ
+  rows_of = range_with_len 0 (length c.kinds.now)
+
+  abbrev pub size_of : ℕ → ℕ
+  size_of k = columns.size_in c.kinds.now c.parents.now c.places.now c.depths.now c.functions.now c.numbers.now c.ends.now c.frames.now k
+
+  abbrev pub sums_of : List ℕ
+  sums_of = layout.sums c.kinds.now c.parents.now c.places.now c.depths.now c.functions.now c.numbers.now c.ends.now c.frames.now
+
+  abbrev pub head_size_of : ℕ
+  head_size_of = layout.head_size c.kinds.now c.parents.now c.places.now c.depths.now c.functions.now c.numbers.now c.ends.now c.frames.now
+
+  abbrev pub words_many_of : ℕ
+  words_many_of = layout.words_many c.kinds.now c.parents.now c.places.now c.depths.now c.functions.now c.numbers.now c.ends.now c.frames.now
+
+  abbrev pub above_of : ℕ → Kind
+  above_of k = layout.above c.kinds.now c.parents.now c.places.now c.depths.now c.functions.now c.numbers.now c.ends.now c.frames.now k
+
+  abbrev pub begin_step_of : ℕ → ℕ
+  begin_step_of k = layout.begin_step c.kinds.now c.parents.now c.places.now c.depths.now c.functions.now c.numbers.now c.ends.now c.frames.now k
+
+  abbrev pub begins_of : List ℕ
+  begins_of = layout.begins c.kinds.now c.parents.now c.places.now c.depths.now c.functions.now c.numbers.now c.ends.now c.frames.now
+
+  abbrev pub kept_of : List ℕ
+  kept_of = layout.kept c.kinds.now c.parents.now c.places.now c.depths.now c.functions.now c.numbers.now c.ends.now c.frames.now
+
+  abbrev pub kept_places_of : List ℕ
+  kept_places_of = layout.kept_places c.kinds.now c.parents.now c.places.now c.depths.now c.functions.now c.numbers.now c.ends.now c.frames.now
+
+  abbrev pub kept_values_of : List ℕ
+  kept_values_of = layout.kept_values c.kinds.now c.parents.now c.places.now c.depths.now c.functions.now c.numbers.now c.ends.now c.frames.now
+
+  -- the kept children stand at their parents
+  abbrev pub AreChildren : List ℕ → Type 0
+  AreChildren children = (i : ℕ) → i < length kept_places_of → slice_index_or children (slice_index_or kept_places_of i 0) 0 ≡ slice_index_or kept_values_of i 0
+
+  abbrev pub AreLaidOf : List ℕ → List ℕ → Type 0
+  AreLaidOf at children = layout.AreLaid c.kinds.now c.parents.now c.places.now c.depths.now c.functions.now c.numbers.now c.ends.now c.frames.now at children
+
+  abbrev pub AreColumnsOf : Program → Type 0
+  AreColumnsOf p = columns.AreColumns c.kinds.now c.parents.now c.places.now c.depths.now c.functions.now c.numbers.now c.ends.now c.frames.now p
+
+  -- the columns of a program without a fault, whose calls mean these rows, and that starts with the function of row main
+  abbrev pub AreAccepted : List ℕ → ℕ → Program → Type 0
+  AreAccepted meant main p = (meant_by : ℕ → Option ℕ) × (number_by : ℕ → ℕ) × accepted.IsAccepted c.kinds.now c.parents.now c.places.now c.depths.now c.functions.now c.numbers.now c.ends.now c.frames.now meant p meant_by number_by main
+
+  module _ (s : Places) (main : ℕ) where
+    abbrev pub AreReady : Type 0
+    AreReady = accepted.IsReady c.kinds.now c.parents.now c.places.now c.depths.now c.functions.now c.numbers.now c.ends.now c.frames.now s.meant.now s.at.now s.children.now main
+
+    -- the instructions before the first row's
+    abbrev pub head_of : List Instr
+    head_of =
+        head_by (referred.at_in s.at.now (referred.first_in c.ends.now (slice_index_or c.functions.now main 0)) - start_size (start_of (columns.start_in c.kinds.now c.parents.now c.places.now c.depths.now c.functions.now c.numbers.now c.ends.now c.frames.now (slice_index_or c.functions.now main 0)))) (start_of (columns.start_in c.kinds.now c.parents.now c.places.now c.depths.now c.functions.now c.numbers.now c.ends.now c.frames.now 0))
+
+    -- the instructions of row k
+    abbrev pub piece_of : ℕ → List Instr
+    piece_of k =
+        piece_by (known_of (columns.known_in c.kinds.now c.parents.now c.places.now c.depths.now c.functions.now c.numbers.now c.ends.now c.frames.now k)) (referred.spots_in c.kinds.now c.parents.now c.places.now c.depths.now c.functions.now c.numbers.now c.ends.now c.frames.now s.at.now s.children.now s.meant.now k)
+
+    -- the words of rows, one behind the other
+    abbrev pub row_words : List ℕ → List ℕ
+    row_words ks = map word (flat_map piece_of ks)
+
+    -- the words in parts: those before the first row's, and then those of the rows chunk by chunk
+    abbrev pub part_of : ℕ → ℕ → List ℕ
+    part_of size zero = map word head_of
+    part_of size (suc n) = row_words (chunk_of size rows_of n)
