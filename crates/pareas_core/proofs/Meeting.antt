@@ -21,8 +21,7 @@ use Rattle.llp_tables.specs.Tables.{IsTableFault}
 use Rattle.llp_tables.specs.Pairs.{CountsPairs}
 use Rattle.llp_tables.specs.FaultLines.{line_of_fault}
 use Rattle.llp_tables.specs.declared.fault.TableFault.{TableFault}
-use Rattle.pareas_core.specs.OneFunction.{IsOneFunction}
-use Rattle.pareas_core.specs.Output.{Due, noted, done, due_of_verdict, due_of_machine, ReadsSource, IsDueOfGrammar, conflicting, sized, sizes, IsDue, not_yet, built, ran, emulated, bad_grammar, tabled}
+use Rattle.pareas_core.specs.Output.{Due, noted, done, due_of_verdict, due_of_machine, IsDueOfGrammar, conflicting, sized, sizes, IsDue, built, ran, emulated, bad_grammar, tabled}
 use Rattle.pareas_core.specs.Reading.{ReadsUpTo, WritesPrefix}
 use Rattle.pareas_core.specs.Headline.{CompilesTo, RunsAs, HasRun, most_bytes, read_by, End, HasFailed, HasWorked, GotPrefix, IsWritten, IsAnswer, MeetsWords, IsResponse, IsDelivered, whole, broken_off}
 
@@ -31,49 +30,73 @@ use Rattle.pareas_core.specs.Headline.{CompilesTo, RunsAs, HasRun, most_bytes, r
 abbrev OneVerdict : List ℕ → Type 0
 OneVerdict bytes = (v w : Verdict) → IsVerdict bytes v → IsVerdict bytes w → v ≡ w
 
-other_due : (c : Command) (bytes : List ℕ) (e : Due) → ReadsSource c → IsDue c bytes e → ¬ IsOneFunction bytes → e ≡ noted statuses.Refused (codes "not yet")
-other_due _ bytes _ reads (not_yet r n) other = refl
-other_due _ bytes _ reads (built f is) other = absurd (other f)
-other_due _ bytes _ reads (ran f is) other = absurd (other f)
-other_due _ bytes _ reads emulated other = absurd reads
-other_due _ bytes _ reads (bad_grammar f is) other = absurd reads
-other_due _ bytes _ reads (tabled g is due) other = absurd reads
+build_due : (bytes : List ℕ) (e : Due) (v : Verdict) → IsDue Build bytes e → ((w : Verdict) → IsVerdict bytes w → w ≡ v) → e ≡ due_of_verdict (λ p. done (image p)) bytes v
+build_due bytes _ v (built {v = w} is) one = ap (due_of_verdict (λ p. done (image p)) bytes) (one w is)
 
-built_due : (bytes : List ℕ) (e : Due) (p : Program) → IsDue Build bytes e → IsOneFunction bytes → ((v : Verdict) → IsVerdict bytes v → v ≡ Accepted p) → e ≡ done (image p)
-built_due bytes _ p (not_yet r n) form one = absurd (n form)
-built_due bytes _ p (built {v = v} f is) form one = ap (due_of_verdict (λ q. done (image q)) bytes) (one v is)
-
-ran_due : (steps : ℕ) (bytes : List ℕ) (e : Due) (p : Program) → IsDue (Run steps) bytes e → IsOneFunction bytes → ((v : Verdict) → IsVerdict bytes v → v ≡ Accepted p)
-    → e ≡ due_of_machine (machine (image p) steps)
-ran_due steps bytes _ p (not_yet r n) form one = absurd (n form)
-ran_due steps bytes _ p (ran {v = v} f is) form one = ap (due_of_verdict (λ q. due_of_machine (machine (image q) steps)) bytes) (one v is)
+run_due : (steps : ℕ) (bytes : List ℕ) (e : Due) (v : Verdict) → IsDue (Run steps) bytes e → ((w : Verdict) → IsVerdict bytes w → w ≡ v)
+    → e ≡ due_of_verdict (λ p. due_of_machine (machine (image p) steps)) bytes v
+run_due steps bytes _ v (ran {v = w} is) one = ap (due_of_verdict (λ p. due_of_machine (machine (image p) steps)) bytes) (one w is)
 
 emulated_due : (steps : ℕ) (bytes : List ℕ) (e : Due) → IsDue (Emu steps) bytes e → e ≡ due_of_machine (machine bytes steps)
-emulated_due steps bytes _ (not_yet r n) = absurd r
 emulated_due steps bytes _ emulated = refl
 
--- a source of another form
-pub refused : (c : Command) (bytes : List ℕ) (d : Due) → ReadsSource c → ¬ IsOneFunction bytes → d ≡ noted statuses.Refused (codes "not yet") → IsResponse c bytes d
-refused c bytes d reads other same = record {
-  due = subst (IsDue c bytes) (sym same) (not_yet reads other);
-  only = λ e h. other_due c bytes e reads h other ∙ sym same;
-  built = λ build is_done. absurd (let e : statuses.Refused ≡ statuses.Done = ap (λ (d : Due). d.status) (sym same) ∙ is_done in cc);
-  ran = λ steps run h. absurd (not_run (subst HasRun (ap (λ (d : Due). d.status) same) h));
-}
+-- a source with a diagnostic, or with a limit that it passes: its line, whatever is asked of its program
+abbrev pub is_line : (Program → Due) → List ℕ → Verdict → Due → Type 0
+is_line f text (Accepted p) d = ⊥
+is_line f text v d = d ≡ due_of_verdict f text v
+
+-- neither ran
+line_status : (f : Program → Due) (text : List ℕ) (v : Verdict) (d : Due) → is_line f text v d → (d.status ≡ statuses.Done) ⊎ HasRun d.status → ⊥
+line_status f text (Accepted p) d is h = is
+line_status f text (Diagnosed code place) d is h = not_done (ap (λ (d : Due). d.status) is) h
   where
-    not_run : HasRun statuses.Refused → ⊥
-    not_run (inl e) = cc
-    not_run (inr (inl e)) = cc
-    not_run (inr (inr e)) = cc
+    not_done : d.status ≡ statuses.Refused → (d.status ≡ statuses.Done) ⊎ HasRun d.status → ⊥
+    not_done e (inl a) = cc
+    not_done e (inr (inl a)) = cc
+    not_done e (inr (inr (inl a))) = cc
+    not_done e (inr (inr (inr a))) = cc
+line_status f text (Limited code place bytes) d is h = not_done (ap (λ (d : Due). d.status) is) h
+  where
+    not_done : d.status ≡ statuses.Limit → (d.status ≡ statuses.Done) ⊎ HasRun d.status → ⊥
+    not_done e (inl a) = cc
+    not_done e (inr (inl a)) = cc
+    not_done e (inr (inr (inl a))) = cc
+    not_done e (inr (inr (inr a))) = cc
+
+line_is : (f : Program → Due) (text : List ℕ) (v : Verdict) (d : Due) → is_line f text v d → d ≡ due_of_verdict f text v
+line_is f text (Accepted p) d is = absurd is
+line_is f text (Diagnosed code place) d is = is
+line_is f text (Limited code place bytes) d is = is
+
+pub refused_build : (bytes : List ℕ) (v : Verdict) (d : Due) → IsVerdict bytes v → OneVerdict bytes → is_line (λ p. done (image p)) bytes v d → IsResponse Build bytes d
+refused_build bytes v d is one told =
+    let same = line_is (λ p. done (image p)) bytes v d told in
+    record {
+      due = subst (IsDue Build bytes) (sym same) (built is);
+      only = λ e h. build_due bytes e v h (λ w i. one w v i is) ∙ sym same;
+      built = λ build is_done. absurd (line_status (λ p. done (image p)) bytes v d told (inl is_done));
+      ran = λ steps run h. absurd (line_status (λ p. done (image p)) bytes v d told (inr h));
+    }
+
+pub refused_run : (steps : ℕ) (bytes : List ℕ) (v : Verdict) (d : Due) → IsVerdict bytes v → OneVerdict bytes → is_line (λ p. due_of_machine (machine (image p) steps)) bytes v d → IsResponse (Run steps) bytes d
+refused_run steps bytes v d is one told =
+    let f : Program → Due = λ p. due_of_machine (machine (image p) steps) in
+    let same = line_is f bytes v d told in
+    record {
+      due = subst (IsDue (Run steps) bytes) (sym same) (ran is);
+      only = λ e h. run_due steps bytes e v h (λ w i. one w v i is) ∙ sym same;
+      built = λ build is_done. absurd (line_status f bytes v d told (inl is_done));
+      ran = λ n run h. absurd (line_status f bytes v d told (inr h));
+    }
 
 -- an image that was built
-pub compiled : (bytes out notes : List ℕ) → IsOneFunction bytes → CompilesTo bytes out → OneVerdict bytes → notes ≡ []
+pub compiled : (bytes out notes : List ℕ) → CompilesTo bytes out → OneVerdict bytes → notes ≡ []
     → IsResponse Build bytes (record { status = statuses.Done; out = out; notes = notes })
-compiled bytes out notes form k one none =
+compiled bytes out notes k one none =
     let same : done (image k.program) ≡ record { status = statuses.Done; out = out; notes = notes } = λ i. record { status = statuses.Done; out = sym k.is_image i; notes = sym none i } in
     record {
-      due = subst (IsDue Build bytes) same (built form k.accepted);
-      only = λ e h. built_due bytes e k.program h form (λ v is. one v (Accepted k.program) is k.accepted) ∙ same;
+      due = subst (IsDue Build bytes) same (built k.accepted);
+      only = λ e h. build_due bytes e (Accepted k.program) h (λ v is. one v (Accepted k.program) is k.accepted) ∙ same;
       built = λ build is_done. k;
       ran = λ steps run h. let e : Build ≡ Run steps = run in cc;
     }
@@ -95,14 +118,14 @@ steps_in (Emu steps) = steps
 steps_in Table = 0
 
 -- the run of an image
-pub run_through : (steps : ℕ) (bytes file : List ℕ) (d : Due) → IsOneFunction bytes → CompilesTo bytes file → OneVerdict bytes → d ≡ due_of_machine (machine file steps)
+pub run_through : (steps : ℕ) (bytes file : List ℕ) (d : Due) → CompilesTo bytes file → OneVerdict bytes → d ≡ due_of_machine (machine file steps)
     → IsResponse (Run steps) bytes d
-run_through steps bytes file d form k one is =
+run_through steps bytes file d k one is =
     let same : due_of_machine (machine (image k.program) steps) ≡ d = ap (λ f. due_of_machine (machine f steps)) (sym k.is_image) ∙ sym is in
     let behaves : Behaves k.program (image k.program) = subst (Behaves k.program) k.is_image k.behaves in
     record {
-      due = subst (IsDue (Run steps) bytes) same (ran form k.accepted);
-      only = λ e h. ran_due steps bytes e k.program h form (λ v is. one v (Accepted k.program) is k.accepted) ∙ same;
+      due = subst (IsDue (Run steps) bytes) same (ran k.accepted);
+      only = λ e h. run_due steps bytes e (Accepted k.program) h (λ v is. one v (Accepted k.program) is k.accepted) ∙ same;
       built = λ build is_done. let e : Run steps ≡ Build = build in cc;
       ran = λ n run h. record {
         program = k.program;
@@ -149,7 +172,6 @@ fault_of d (Err f) = f
 
 table_due : (bytes : List ℕ) (g : Grammar) (d e : Due) → Spells bytes (Ok g) → OneSpelling bytes → OneAnswer g → IsDueOfGrammar g d → IsDue Table bytes e → e ≡ d
 unfolding grammar_of
-table_due bytes g d _ is one answer due (not_yet r n) = absurd r
 table_due bytes g d _ is one answer due (bad_grammar f other) = let e : Ok g ≡ Err f = one (Ok g) (Err f) is other in cc
 table_due bytes g d e is one answer due (tabled h other also) =
     let same : h ≡ g = ap (grammar_of g) (one (Ok h) (Ok g) other is) in
@@ -157,7 +179,6 @@ table_due bytes g d e is one answer due (tabled h other also) =
 
 bad_due : (bytes : List ℕ) (f : GrammarFault) (e : Due) → Spells bytes (Err f) → OneSpelling bytes → IsDue Table bytes e → e ≡ noted statuses.BadGrammar (line_of_grammar_fault f)
 unfolding fault_of
-bad_due bytes f _ is one (not_yet r n) = absurd r
 bad_due bytes f _ is one (bad_grammar h other) = ap (λ f. noted statuses.BadGrammar (line_of_grammar_fault f)) (ap (fault_of f) (one (Err h) (Err f) other is))
 bad_due bytes f e is one (tabled h other also) = let e : Err f ≡ Ok h = one (Err f) (Ok h) is other in cc
 
@@ -227,9 +248,8 @@ grammar_outcome g _ (sized n ll1 llp count) = tt
 
 outcome : (c : Command) (bytes : List ℕ) (d : Due) → IsDue c bytes d → IsOutcome d.status
 unfolding IsOutcome
-outcome _ bytes _ (not_yet r n) = tt
-outcome _ bytes _ (built {v = v} f is) = verdict_outcome (λ p. done (image p)) bytes v (λ p. tt)
-outcome _ bytes _ (ran {steps = steps} {v = v} f is) = verdict_outcome (λ p. due_of_machine (machine (image p) steps)) bytes v (λ p. machine_outcome (machine (image p) steps))
+outcome _ bytes _ (built {v = v} is) = verdict_outcome (λ p. done (image p)) bytes v (λ p. tt)
+outcome _ bytes _ (ran {steps = steps} {v = v} is) = verdict_outcome (λ p. due_of_machine (machine (image p) steps)) bytes v (λ p. machine_outcome (machine (image p) steps))
 outcome _ bytes _ (emulated {steps = steps}) = machine_outcome (machine bytes steps)
 outcome _ bytes _ (bad_grammar f is) = tt
 outcome _ bytes d (tabled g is due) = grammar_outcome g d due

@@ -1,6 +1,5 @@
 pub mod Causes
-pub mod OneFunction
-pub mod Scanning
+pub mod Coded
 pub mod Memory
 pub mod Reading
 pub mod Output

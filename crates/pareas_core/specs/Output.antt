@@ -11,7 +11,6 @@ use Rattle.elf_file.specs.Text.{name_of}
 use Rattle.rv32_emul.specs.Machine.{Outcome, Exits, Faults, More, machine}
 use Rattle.pareas_core.specs.declared.status.Status.{Status}
 use Rattle.pareas_core.specs.declared.status.Status.TheVariants.{Done, Refused, Limit, Running, Machine, Conflict, BadImage, BadGrammar}
-use Rattle.pareas_core.specs.OneFunction.{IsOneFunction}
 use Rattle.grammar_file.specs.Grammar.{Grammar}
 use Rattle.grammar_file.specs.Spelling.{Spells}
 use Rattle.grammar_file.specs.declared.file.GrammarFault.{GrammarFault}
@@ -115,19 +114,10 @@ pub data IsDueOfGrammar (g : Grammar) : Due → Type 0 where
 
 -- ---- what is due
 
--- the command reads a source
-abbrev pub ReadsSource : Command → Type 0
-ReadsSource Build = Unit {0}
-ReadsSource (Run steps) = Unit {0}
-ReadsSource (Emu steps) = ⊥
-ReadsSource Table = ⊥
-
 -- What is due for a command and the bytes that it read. Workers, chunks and gate have no part in it.
--- Sources of another form than the first are not compiled yet.
 pub data IsDue : Command → List ℕ → Due → Type 0 where
-  not_yet : {c : Command} {bytes : List ℕ} → ReadsSource c → ¬ IsOneFunction bytes → IsDue c bytes (noted Refused (codes "not yet"))
-  built : {bytes : List ℕ} {v : Verdict} → IsOneFunction bytes → IsVerdict bytes v → IsDue Build bytes (due_of_verdict (λ p. done (image p)) bytes v)
-  ran : {steps : ℕ} {bytes : List ℕ} {v : Verdict} → IsOneFunction bytes → IsVerdict bytes v →
+  built : {bytes : List ℕ} {v : Verdict} → IsVerdict bytes v → IsDue Build bytes (due_of_verdict (λ p. done (image p)) bytes v)
+  ran : {steps : ℕ} {bytes : List ℕ} {v : Verdict} → IsVerdict bytes v →
       IsDue (Run steps) bytes (due_of_verdict (λ p. due_of_machine (machine (image p) steps)) bytes v)
   emulated : {steps : ℕ} {bytes : List ℕ} → IsDue (Emu steps) bytes (due_of_machine (machine bytes steps))
   -- a file that spells no grammar

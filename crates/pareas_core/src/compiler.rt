@@ -1,37 +1,24 @@
-// The compiler: from a source to an executable file.
-
-ghost use Rattle.std.specs.Prelude.{◌≡◌, Err, IfOk, OnOk};
+//! The compiler: from a source to an executable file.
+ghost use Rattle.std.specs.Prelude.{◌≡◌, IfOk, IfErr};
+ghost use Rattle.front_end.specs.Front.{IsRefusedBy};
 ghost use Rattle.pareas_core.specs.Headline.{CompilesTo};
-ghost use Rattle.pareas_core.specs.OneFunction.{IsOneFunction};
 
-use crate::image::image_of;
-use crate::one_function::returned_number;
-use crate::refusal::Refusal;
+use crate::code::code;
+use elf_file::write;
+use front_end::{Refusal, front};
 use par_passes::Passes;
 use simulation::source_behaves;
-use std::alloc::Global;
 
-/// The executable file of a source: the same for every plan, gate and schedule.
+/// The executable file of a source, or why it has none: its first diagnostic, or the limit that it passes. It is the same for every
+/// plan, gate and schedule, and the only other refusal is that memory is out.
 pub fn compile(crew: &impl Passes, source: &[u8]) -> Result<Vec<u8>, Refusal>
-    // A file is the image of the program that the source is, and behaves as that program on RV32IM.
+    // A file is the image of the program that the source is, and does on RV32IM what that program does.
     ensures image { IfOk result (λ file. CompilesTo source.now file.items) }
-    // Only sources of the first form are compiled yet, and each of them is, unless memory runs out.
-    ensures of_form { OnOk result (IsOneFunction source.now) }
-    ensures not_yet { result ≡ Err Refusal.NotYet → ¬ IsOneFunction source.now }
-{
-    compile_one_function(crew.alloc(), source)
-}
-
-// The same without workers.
-fn compile_one_function(alloc: Global, source: &[u8]) -> Result<Vec<u8>, Refusal>
-    ensures image { IfOk result (λ file. CompilesTo source.now file.items) }
-    ensures of_form { OnOk result (IsOneFunction source.now) }
-    ensures not_yet { result ≡ Err Refusal.NotYet → ¬ IsOneFunction source.now }
+    // A refusal is what the definitions say of the source.
+    ensures refused { IfErr result (IsRefusedBy source.now) }
 {
     source_behaves();
-    let Some(value) = returned_number(source) else {
-        return Err(Refusal::NotYet);
-    };
-    let file = image_of(alloc, value)?;
-    Ok(file)
+    let analysis = front(crew, source)?;
+    let words = code(crew, source, &analysis)?;
+    Ok(write(crew.alloc(), &words)?)
 }

@@ -5,13 +5,13 @@ ghost use Rattle.command_line.specs.Words.{command_of};
 ghost use Rattle.pareas_core.specs.Headline.{MeetsWords, most_bytes};
 
 use crate::ends::{ByteIn, ByteOut};
-use crate::one_function::MOST_SOURCE;
 use crate::reading::{ReadError, read_up_to};
 use crate::response::{deliver, respond};
 use crate::status::Status;
 use crate::writing::write_all;
 use chunk_seats::Gate;
 use command_line::{Command, Refusal, Request, read};
+use front_end::MOST_SOURCE;
 use par_passes::Workers;
 use std::alloc::Global;
 use std::thread::Threads;

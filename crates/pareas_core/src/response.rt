@@ -1,19 +1,20 @@
 // What the program answers to a command and the bytes that it read.
 
-ghost use Rattle.std.specs.Prelude.{◌≡◌, IfOk, OnOk, codes};
+ghost use Rattle.std.specs.Prelude.{◌≡◌, ◌++◌, IfOk, OnOk, codes};
 ghost use Rattle.command_line.specs.declared.command.Command.TheVariants.{Build, Run};
-ghost use Rattle.pareas_core.specs.declared.status.Status.TheVariants.{Refused};
-ghost use Rattle.pareas_core.specs.Output.{noted};
+ghost use Rattle.pareas_core.specs.declared.status.Status.TheVariants.{Limit, Refused};
+ghost use Rattle.pareas_core.specs.Output.{at_place, noted};
 ghost use Rattle.pareas_core.specs.Headline.{IsDelivered, IsResponse};
 
 use crate::compiler::compile;
 use crate::ends::ByteOut;
 use crate::machine::emulate;
-use crate::refusal::Refusal;
+use crate::position::{column, line_number};
 use crate::status::Status;
 use crate::table::table;
 use crate::writing::write_all;
 use command_line::Command;
+use front_end::Refusal;
 use par_passes::Passes;
 use std::alloc::{AllocError, Global};
 use std::marker::Model;
@@ -35,14 +36,29 @@ impl Model for Response {
     ghost view = { λ r. record { status = r.status; out = r.out.items; notes = r.notes.items } };
 }
 
-// The refusal of a source of a form that isn't compiled yet.
-fn not_yet(alloc: Global) -> Result<Response, AllocError>
-    ensures { IfOk result (λ response. response ≡ noted Refused (codes "not yet")) }
+// The line of a source's diagnostic.
+fn diagnostic(alloc: Global, source: &[u8], code: u16, at: u32) -> Result<Response, AllocError>
+    ensures { IfOk result (λ response. response ≡ noted Refused (codes "error " ++ at_place source.now code at)) }
 {
+    let line = line_number(source, at as usize);
+    let column = column(source, at as usize);
     Ok(Response {
         status: Status::Refused,
         out: Vec::new(alloc),
-        notes: b"not yet\n".to_vec(alloc)?,
+        notes: format!(in alloc; "error {code} at {line}:{column}\n")?.into_bytes(),
+    })
+}
+
+// The line of a limit that a source passes.
+fn limit(alloc: Global, source: &[u8], code: u16, at: u32) -> Result<Response, AllocError>
+    ensures { IfOk result (λ response. response ≡ noted Limit (codes "limit " ++ at_place source.now code at)) }
+{
+    let line = line_number(source, at as usize);
+    let column = column(source, at as usize);
+    Ok(Response {
+        status: Status::Limit,
+        out: Vec::new(alloc),
+        notes: format!(in alloc; "limit {code} at {line}:{column}\n")?.into_bytes(),
     })
 }
 
@@ -57,7 +73,8 @@ fn build(crew: &impl Passes, source: &[u8]) -> Result<Response, AllocError>
             out: file,
             notes: Vec::new(crew.alloc()),
         }),
-        Err(Refusal::NotYet) => not_yet(crew.alloc()),
+        Err(Refusal::Diagnostic { code, at }) => diagnostic(crew.alloc(), source, code, at),
+        Err(Refusal::Limit { code, at, .. }) => limit(crew.alloc(), source, code, at),
         Err(Refusal::NoMemory) => Err(AllocError),
     }
 }
@@ -69,7 +86,8 @@ fn run(crew: &impl Passes, source: &[u8], steps: u32) -> Result<Response, AllocE
     one_verdict();
     match compile(crew, source) {
         Ok(file) => emulate(crew.alloc(), &file, steps),
-        Err(Refusal::NotYet) => not_yet(crew.alloc()),
+        Err(Refusal::Diagnostic { code, at }) => diagnostic(crew.alloc(), source, code, at),
+        Err(Refusal::Limit { code, at, .. }) => limit(crew.alloc(), source, code, at),
         Err(Refusal::NoMemory) => Err(AllocError),
     }
 }

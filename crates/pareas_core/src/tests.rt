@@ -129,35 +129,93 @@ fn builds_any_white_space_and_leading_zeros(rt: HostRuntime) -> Result<(), Fail>
 }
 
 #[test]
-fn refuses_other_sources_and_words(rt: HostRuntime) -> Result<(), Fail> {
-    let not_yet: (Status, &[u8], &[u8]) = (Status::Refused, b"", b"not yet\n");
-    expect(&rt, rt.alloc(), &BUILD, b"", &SOUND, not_yet)?;
+fn refuses_sources_with_their_lines(rt: HostRuntime) -> Result<(), Fail> {
+    let rows: [(&[u8], &[u8]); 4] = [
+        (b"", b"error 405 at 1:1\n"),
+        (
+            b"fn main(): int { return 2147483648; }",
+            b"error 102 at 1:25\n",
+        ),
+        (
+            b"fn main(): int {\nreturn true;\n    $\n}",
+            b"error 101 at 3:5\n",
+        ),
+        (
+            b"fn main(): int {\nreturn true;\n\n}",
+            b"error 505 at 2:1\n",
+        ),
+    ];
+    for (source, line) in rows {
+        expect(
+            &rt,
+            rt.alloc(),
+            &BUILD,
+            source,
+            &SOUND,
+            (Status::Refused, b"", line),
+        )?;
+    }
+    let commented = b"fn main(): int { return 7; } // end";
     expect(
         &rt,
         rt.alloc(),
         &BUILD,
-        b"fn main(): int { return 2048; }",
+        commented,
         &SOUND,
-        not_yet,
-    )?;
-    expect(
-        &rt,
-        rt.alloc(),
-        &BUILD,
-        b"fn main(): int { return7; }",
-        &SOUND,
-        not_yet,
-    )?;
-    expect(
-        &rt,
-        rt.alloc(),
-        &BUILD,
-        b"fn main(): int { return 7; } // end",
-        &SOUND,
-        not_yet,
+        (Status::Done, &SEVEN_FILE, b""),
     )?;
     let spaces = vec![in rt.alloc(); b' '; 1_048_577]?;
-    expect(&rt, rt.alloc(), &BUILD, &spaces, &SOUND, not_yet)?;
+    let limit: (Status, &[u8], &[u8]) = (Status::Limit, b"", b"limit 601 at 1:1048577\n");
+    expect(&rt, rt.alloc(), &BUILD, &spaces, &SOUND, limit)?;
+    Ok(())
+}
+
+#[test]
+fn runs_programs_of_the_whole_language(rt: HostRuntime) -> Result<(), Fail> {
+    let rows: [(&[u8], &[u8]); 8] = [
+        (b"fn main(): int { return 8-3-2; }", b"exit 3\n"),
+        (
+            b"fn main(): int { return (-2147483647-1)/-1; }",
+            b"exit -2147483648\n",
+        ),
+        (b"fn main(): int { return 1/0; }", b"exit -1\n"),
+        (b"fn main(): int { return 5%0; }", b"exit 5\n"),
+        (b"fn main(): int { return 1<<33; }", b"exit 2\n"),
+        (
+            b"fn main(): int { var x: int = 1; return x + (x = 3); }",
+            b"exit 4\n",
+        ),
+        (
+            b"fn le(): bool { return 1<=2 == true; } fn main(): int { if le[] { return 1; } return 0; }",
+            b"exit 1\n",
+        ),
+        (
+            b"fn f(var a: int): int { return a; } fn main(): int { return 1+(2+(3+(4+(5+(6+(7+(8+(9+(10+(11+(12+(13+f[14])))))))))))); }",
+            b"exit 105\n",
+        ),
+    ];
+    for (source, out) in rows {
+        expect(
+            &rt,
+            rt.alloc(),
+            &["pareas", "run"],
+            source,
+            &SOUND,
+            (Status::Done, out, b""),
+        )?;
+    }
+    let endless = b"fn main(): int { while true { } }";
+    expect(
+        &rt,
+        rt.alloc(),
+        &["pareas", "run", "--steps", "1000"],
+        endless,
+        &SOUND,
+        (Status::Running, b"running\n", b""),
+    )?;
+    let deep = b"fn f(): int { return f[]; } fn main(): int { return f[]; }";
+    let overrun: (Status, &[u8], &[u8]) = (Status::Machine, b"fault store at 0x00010064\n", b"");
+    expect(&rt, rt.alloc(), &["pareas", "run"], deep, &SOUND, overrun)?;
     Ok(())
 }
 
@@ -230,8 +288,8 @@ fn runs_for_so_many_steps(rt: HostRuntime) -> Result<(), Fail> {
         let words = ["pareas", "run", "--steps", steps];
         expect(&rt, rt.alloc(), &words, SEVEN, &SOUND, (status, out, b""))?;
     }
-    let not_yet: (Status, &[u8], &[u8]) = (Status::Refused, b"", b"not yet\n");
-    expect(&rt, rt.alloc(), &["pareas", "run"], b"", &SOUND, not_yet)?;
+    let empty: (Status, &[u8], &[u8]) = (Status::Refused, b"", b"error 405 at 1:1\n");
+    expect(&rt, rt.alloc(), &["pareas", "run"], b"", &SOUND, empty)?;
     Ok(())
 }
 

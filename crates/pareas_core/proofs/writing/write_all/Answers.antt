@@ -1,5 +1,5 @@
 use Rattle.std.proofs.Common.{refl, sym, ◌∙◌}
-use Rattle.pareas_core.proofs.FirstWords.{rest_all}
+use Rattle.pareas_core.proofs.Rest.{rest_all}
 use Rattle.pareas_core.proofs.Appending.{start_of, goes_on}
 use Rattle.pareas_core.proofs.writing.write_all.Goals as goal
 

@@ -1,6 +1,6 @@
 use Rattle.std.proofs.Common.{drop, sym, ap, ◌∙◌}
 use Rattle.pareas_core.specs.Memory.{InMemory}
-use Rattle.pareas_core.proofs.FirstWords.{rest_all}
+use Rattle.pareas_core.proofs.Rest.{rest_all}
 use Rattle.pareas_core.proofs.MemoryReads.{read_is}
 use Rattle.pareas_core.proofs.memory.MemoryInByteIn.read.Goals as goal
 
