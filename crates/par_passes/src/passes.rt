@@ -216,8 +216,8 @@ pub trait Passes {
         K: Lifted<T>,
     >(&self, monoid: &M, items: &[T], lift: &F) -> Result<Vec<M::Item>, AllocError>
         requires len { length items.now < 2 ^ 62 }
-        requires callable { F.IsAlwaysCallable lift.now }
-        requires lifts { (x : T) (r : M.Item) → F.post lift.now x r → r ≡ (M.ops monoid.now).decode (K.code_of x) }
+        requires callable { All (F.pre lift.now) items.now }
+        requires lifts { All (λ x. (r : M.Item) → F.post lift.now x r → r ≡ (M.ops monoid.now).decode (K.code_of x)) items.now }
         requires accepted { All (λ x. IsItem (M.ops monoid.now) ((M.ops monoid.now).decode (K.code_of x))) items.now }
         ensures { IfOk result (λ v. v.items ≡ prefixes (M.ops monoid.now) (map (λ x. (M.ops monoid.now).decode (K.code_of x)) items.now)) }
     {

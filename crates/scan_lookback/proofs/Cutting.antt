@@ -73,6 +73,13 @@ length-range a n xs = length-take n (drop a xs) ∙ ap (min n) (length-drop a xs
 pub length-chunk : {X : Type 0} (size : ℕ) (xs : List X) (c : ℕ) → length (chunk_of size xs c) ≡ min size (length xs - c * size)
 length-chunk size xs c = length-range (c * size) size xs
 
+-- what holds of all items holds of those of a stretch, and of a chunk
+pub all_range : {X : Type 0} (P : X → Type 0) (items part : List X) (a n : ℕ) → part ≡ take n (drop a items) → All P items → All P part
+all_range P items part a n is all = subst (All P) (sym is) (All-take P n (drop a items) (All-drop P a items all))
+
+pub all_chunk : {X : Type 0} (P : X → Type 0) (items part : List X) (size c : ℕ) → part ≡ chunk_of size items c → All P items → All P part
+all_chunk P items part size c = all_range P items part (c * size) size
+
 module _ {T I : Type 0} (post : T → I → Type 0) (items : List T) (lifted : List I) (lifts : Lifts post items lifted) where
   pub lifts_range : (a n : ℕ) → Lifts post (take n (drop a items)) (take n (drop a lifted))
   lifts_range a n = record {

@@ -6,6 +6,7 @@ use Rattle.std.proofs.lemmas.Option.{slice_get-map}
 use Rattle.std.specs.Prelude.{option_map}
 use Rattle.word_monoid.specs.Monoid.{Ops, IsItem, IsMonoid}
 use Rattle.word_monoid.specs.Folds.{prefixes_from}
+use Rattle.word_monoid.proofs.Folds.{all_at}
 use Rattle.scan_lookback.specs.Named.{Names}
 use Rattle.scan_lookback.specs.Cuts.{Scans, sums_of}
 use Rattle.scan_lookback.proofs.Cutting.{sums_are_items}
@@ -17,11 +18,11 @@ module _ {T I : Type 0} (ops : Ops I) (of : T → I) (items : List T) (ok : All 
   lifted_items : All (IsItem ops) lifted
   lifted_items = All-map (IsItem ops) of items ok
 
-  pub scans_of : (post : T → I → Type 0) → ((x : T) (r : I) → post x r → r ≡ of x) → Scans ops post size items lifted (sums_of ops size lifted)
+  pub scans_of : (post : T → I → Type 0) → All (λ x. (r : I) → post x r → r ≡ of x) items → Scans ops post size items lifted (sums_of ops size lifted)
   scans_of post gives = record {
     lifts = record {
       as_many = length-map items of;
-      each = λ i x r at p. slice_get-map of items i ∙ (ap (option_map of) at ∙ ap Some (sym (gives x r p)));
+      each = λ i x r at p. slice_get-map of items i ∙ (ap (option_map of) at ∙ ap Some (sym (all_at (λ x. (r : I) → post x r → r ≡ of x) items i x gives at r p)));
     };
     accepted = lifted_items;
     cut = refl;

@@ -1,5 +1,5 @@
 //! A scan by one worker.
-ghost use Rattle.std.specs.Prelude.{◌≡◌, ◌<◌, ◌≤◌, ◌^◌, length, IfOk};
+ghost use Rattle.std.specs.Prelude.{◌≡◌, ◌<◌, ◌≤◌, ◌^◌, length, IfOk, All};
 ghost use Rattle.chunk_seats.specs.Chunks.{chunk_count};
 ghost use Rattle.word_monoid.specs.Folds.{prefixes};
 ghost use Rattle.scan_lookback.specs.Cuts.{Scans};
@@ -24,7 +24,7 @@ pub(crate) fn scan_alone<T: Copy, M: WordMonoid, N: Chunks<M::Item>, F: Fn(T) ->
 ) -> Result<Vec<M::Item>, AllocError>
     requires len { length items.now < 2 ^ 62 }
     requires count { count ≡ chunk_count plan.now.chunk (length items.now) }
-    requires callable { F.IsAlwaysCallable lift.now }
+    requires callable { All (F.pre lift.now) items.now }
     requires scans { Scans (M.ops monoid.now) (F.post lift.now) plan.now.chunk items.now N.items N.sums }
     ensures { IfOk result (λ v. v.items ≡ prefixes (M.ops monoid.now) N.items) }
 {

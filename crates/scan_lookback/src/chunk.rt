@@ -1,5 +1,5 @@
 //! What a worker does with one chunk.
-ghost use Rattle.std.specs.Prelude.{◌≡◌, ℕ, ◌+◌, ◌-◌, ◌*◌, ◌<◌, ◌≤◌, ◌^◌, length, IfOk, ◌++◌, ◌∷◌, [], slice_get, Some};
+ghost use Rattle.std.specs.Prelude.{◌≡◌, ℕ, ◌+◌, ◌-◌, ◌*◌, ◌<◌, ◌≤◌, ◌^◌, length, IfOk, ◌++◌, ◌∷◌, [], slice_get, Some, All};
 ghost use Rattle.chunk_seats.specs.Chunks.{chunk_of};
 ghost use Rattle.word_monoid.specs.Monoid.{IsItem};
 ghost use Rattle.word_monoid.specs.Folds.{prefix_of};
@@ -34,7 +34,7 @@ fn chunk_sum<T: Copy, M: WordMonoid, N: Chunks<M::Item>, F: Fn(T) -> M::Item>(
     size: u32,
     c: u64,
 ) -> M::Item
-    requires callable { F.IsAlwaysCallable lift.now }
+    requires callable { All (F.pre lift.now) items.now }
     requires scans { Scans (M.ops monoid.now) (F.post lift.now) size items.now N.items N.sums }
     requires size { 0 < size }
     requires chunk { c < length N.sums }
@@ -54,7 +54,7 @@ impl<'a, M: WordMonoid, N: Chunks<M::Item>> ScanBoard<'a, M, N> {
         c: u64,
     ) -> M::Item
         requires board { seat.old.board ≡ self.now.board }
-        requires callable { F.IsAlwaysCallable lift.now }
+        requires callable { All (F.pre lift.now) items.now }
         requires scans { Scans (M.ops self.now.monoid) (F.post lift.now) size items.now N.items N.sums }
         requires size { 0 < size }
         requires chunk { c < self.now.chunks }
@@ -66,7 +66,7 @@ impl<'a, M: WordMonoid, N: Chunks<M::Item>> ScanBoard<'a, M, N> {
         let sum = chunk_sum::<T, M, N, F>(monoid, items, lift, size, c);
         self.show(seat, c, sum);
         let fold = |unseen: Unseen| -> M::Item
-            requires { F.IsAlwaysCallable lift.now × Scans (M.ops monoid.now) (F.post lift.now) size items.now N.items N.sums × (0 < size) × (unseen.chunk < length N.sums) }
+            requires { All (F.pre lift.now) items.now × Scans (M.ops monoid.now) (F.post lift.now) size items.now N.items N.sums × (0 < size) × (unseen.chunk < length N.sums) }
             ensures { slice_get N.sums unseen.chunk ≡ Some result }
         { chunk_sum::<T, M, N, F>(monoid, items, lift, size, unseen.chunk()) };
         let start = self.joined_before::<_, Brand>(seat, c, &fold, Blank::new(1));
@@ -85,7 +85,7 @@ impl<'a, M: WordMonoid, N: Chunks<M::Item>> ScanBoard<'a, M, N> {
         c: u64,
     ) -> Result<Vec<M::Item>, AllocError>
         requires board { seat.old.board ≡ self.now.board }
-        requires callable { F.IsAlwaysCallable lift.now }
+        requires callable { All (F.pre lift.now) items.now }
         requires scans { Scans (M.ops self.now.monoid) (F.post lift.now) size items.now N.items N.sums }
         requires size { 0 < size }
         requires chunk { c < self.now.chunks }

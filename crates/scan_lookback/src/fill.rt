@@ -1,5 +1,5 @@
 //! The list of a scan, filled from the joins before the chunks.
-ghost use Rattle.std.specs.Prelude.{◌≡◌, ℕ, ◌+◌, ◌*◌, ◌%◌, ◌<◌, ◌≤◌, ◌^◌, length, take, drop, IfOk};
+ghost use Rattle.std.specs.Prelude.{◌≡◌, ℕ, ◌+◌, ◌*◌, ◌%◌, ◌<◌, ◌≤◌, ◌^◌, length, take, drop, IfOk, All};
 ghost use Rattle.std.specs.Thread.{IsSync};
 ghost use Rattle.word_monoid.specs.Folds.{prefixes_from};
 ghost use Rattle.scan_lookback.specs.Cuts.{Scans};
@@ -48,7 +48,7 @@ fn fill_piece<T: Copy, M: WordMonoid, N: Chunks<M::Item>, F: Fn(T) -> M::Item>(
     from: usize,
     piece: &mut [M::Item],
 )
-    requires callable { F.IsAlwaysCallable lift.now }
+    requires callable { All (F.pre lift.now) items.now }
     requires scans { Scans (M.ops monoid.now) (F.post lift.now) size items.now N.items N.sums }
     requires starts { starts.now ≡ prefixes_from (M.ops monoid.now) N.sums 0 (length N.sums) }
     requires size { (0 < size) × (0 < per) × (per * size < 2 ^ 64) }
@@ -77,7 +77,7 @@ pub(crate) fn fill<
     starts: &[M::Item],
     out: &mut [M::Item],
 )
-    requires callable { F.IsAlwaysCallable lift.now }
+    requires callable { All (F.pre lift.now) items.now }
     requires scans { Scans (M.ops monoid.now) (F.post lift.now) size items.now N.items N.sums }
     requires starts { starts.now ≡ prefixes_from (M.ops monoid.now) N.sums 0 (length N.sums) }
     requires size { (0 < size) × (0 < per) × (per * size < 2 ^ 64) }
@@ -85,7 +85,7 @@ pub(crate) fn fill<
     ensures { out.new ≡ prefixes_from (M.ops monoid.now) N.items 0 (length N.items) }
 {
     let piece = move |from: usize, piece: &mut [M::Item]|
-        requires { F.IsAlwaysCallable lift.now × Scans (M.ops monoid.now) (F.post lift.now) size items.now N.items N.sums × (starts.now ≡ prefixes_from (M.ops monoid.now) N.sums 0 (length N.sums)) × (0 < size) × (0 < per) × (per * size < 2 ^ 64) × (from % (per * size) ≡ 0) × (0 < length piece.now) × (from + length piece.now ≤ length items.now) }
+        requires { All (F.pre lift.now) items.now × Scans (M.ops monoid.now) (F.post lift.now) size items.now N.items N.sums × (starts.now ≡ prefixes_from (M.ops monoid.now) N.sums 0 (length N.sums)) × (0 < size) × (0 < per) × (per * size < 2 ^ 64) × (from % (per * size) ≡ 0) × (0 < length piece.now) × (from + length piece.now ≤ length items.now) }
         ensures { piece.exit.now ≡ prefixes_from (M.ops monoid.entry.now) N.items from (length piece.entry.now) }
     { fill_piece::<T, M, N, F>(monoid, items, lift, size, per, starts, from, piece) };
     for_each_chunk_mut(rt, out, per * size as usize, &piece);

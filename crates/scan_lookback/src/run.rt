@@ -1,5 +1,5 @@
 //! The workers of a scan.
-ghost use Rattle.std.specs.Prelude.{◌≡◌, ◌+◌, ◌<◌, ◌≤◌, ◌^◌, length, IfOk};
+ghost use Rattle.std.specs.Prelude.{◌≡◌, ◌+◌, ◌<◌, ◌≤◌, ◌^◌, length, IfOk, All};
 ghost use Rattle.std.specs.Thread.{IsSync};
 ghost use Rattle.chunk_seats.specs.Claims.{fresh};
 ghost use Rattle.scan_lookback.specs.Views.{blank};
@@ -71,7 +71,7 @@ pub(crate) fn run<
     requires boards { (seat.board ≡ board.now.board) × (mine.board ≡ claims.now.board) × (claims.now.chunks ≡ board.now.chunks) }
     requires new { (seat.view ≡ blank workers) × (mine.view ≡ fresh workers) }
     requires workers { (1 ≤ workers) × (first + workers ≤ 64) }
-    requires callable { F.IsAlwaysCallable lift.now }
+    requires callable { All (F.pre lift.now) items.now }
     requires scans { Scans (M.ops board.now.monoid) (F.post lift.now) plan.now.chunk items.now N.items N.sums }
     ensures { IfOk result (λ r. Makes (M.ops board.now.monoid) N.sums board.now.board claims.now.board workers r) }
 {
@@ -89,7 +89,7 @@ pub(crate) fn run<
     let (one, two) = join(
         rt,
         move || -> Result<Made<M::Item>, AllocError>
-            requires { IsSync R.row × (seat.board ≡ board.now.board) × (mine.board ≡ claims.now.board) × (claims.now.chunks ≡ board.now.chunks) × (seat.view ≡ blank rest) × (mine.view ≡ fresh rest) × (1 ≤ rest) × (first + rest ≤ 64) × F.IsAlwaysCallable lift.now × Scans (M.ops board.now.monoid) (F.post lift.now) plan.now.chunk items.now N.items N.sums }
+            requires { IsSync R.row × (seat.board ≡ board.now.board) × (mine.board ≡ claims.now.board) × (claims.now.chunks ≡ board.now.chunks) × (seat.view ≡ blank rest) × (mine.view ≡ fresh rest) × (1 ≤ rest) × (first + rest ≤ 64) × All (F.pre lift.now) items.now × Scans (M.ops board.now.monoid) (F.post lift.now) plan.now.chunk items.now N.items N.sums }
             ensures { IfOk result (λ r. Makes (M.ops board.entry.now.monoid) N.sums board.entry.now.board claims.entry.now.board rest r) }
         {
             run(
@@ -97,7 +97,7 @@ pub(crate) fn run<
             )
         },
         move || -> Result<Made<M::Item>, AllocError>
-            requires { IsSync R.row × (other.board ≡ board.now.board) × (theirs.board ≡ claims.now.board) × (claims.now.chunks ≡ board.now.chunks) × (other.view ≡ blank half) × (theirs.view ≡ fresh half) × (1 ≤ half) × (after + half ≤ 64) × F.IsAlwaysCallable lift.now × Scans (M.ops board.now.monoid) (F.post lift.now) plan.now.chunk items.now N.items N.sums }
+            requires { IsSync R.row × (other.board ≡ board.now.board) × (theirs.board ≡ claims.now.board) × (claims.now.chunks ≡ board.now.chunks) × (other.view ≡ blank half) × (theirs.view ≡ fresh half) × (1 ≤ half) × (after + half ≤ 64) × All (F.pre lift.now) items.now × Scans (M.ops board.now.monoid) (F.post lift.now) plan.now.chunk items.now N.items N.sums }
             ensures { IfOk result (λ r. Makes (M.ops board.entry.now.monoid) N.sums board.entry.now.board claims.entry.now.board half r) }
         {
             run(
@@ -129,7 +129,7 @@ fn first_worker<
 ) -> Result<Begun<M::Item>, AllocError>
     requires boards { (seat.board ≡ board.now.board) × (mine.board ≡ claims.now.board) × (claims.now.chunks ≡ board.now.chunks) }
     requires new { (seat.view ≡ blank 1) × (mine.view ≡ fresh 1) }
-    requires callable { F.IsAlwaysCallable lift.now }
+    requires callable { All (F.pre lift.now) items.now }
     requires len { length items.now < 2 ^ 62 }
     requires scans { Scans (M.ops board.now.monoid) (F.post lift.now) plan.now.chunk items.now N.items N.sums }
     ensures made { IfOk result (λ r. Makes (M.ops board.now.monoid) N.sums board.now.board claims.now.board 1 r.made) }
@@ -168,7 +168,7 @@ pub(crate) fn begin<
     requires boards { (seat.board ≡ board.now.board) × (mine.board ≡ claims.now.board) × (claims.now.chunks ≡ board.now.chunks) }
     requires new { (seat.view ≡ blank workers) × (mine.view ≡ fresh workers) }
     requires workers { (2 ≤ workers) × (workers ≤ 64) }
-    requires callable { F.IsAlwaysCallable lift.now }
+    requires callable { All (F.pre lift.now) items.now }
     requires len { length items.now < 2 ^ 62 }
     requires scans { Scans (M.ops board.now.monoid) (F.post lift.now) plan.now.chunk items.now N.items N.sums }
     ensures made { IfOk result (λ r. Makes (M.ops board.now.monoid) N.sums board.now.board claims.now.board workers r.made) }
@@ -180,12 +180,12 @@ pub(crate) fn begin<
     let (one, two) = join(
         rt,
         move || -> Result<Begun<M::Item>, AllocError>
-            requires { (seat.board ≡ board.now.board) × (mine.board ≡ claims.now.board) × (claims.now.chunks ≡ board.now.chunks) × (seat.view ≡ blank 1) × (mine.view ≡ fresh 1) × F.IsAlwaysCallable lift.now × (length items.now < 2 ^ 62) × Scans (M.ops board.now.monoid) (F.post lift.now) plan.now.chunk items.now N.items N.sums }
+            requires { (seat.board ≡ board.now.board) × (mine.board ≡ claims.now.board) × (claims.now.chunks ≡ board.now.chunks) × (seat.view ≡ blank 1) × (mine.view ≡ fresh 1) × All (F.pre lift.now) items.now × (length items.now < 2 ^ 62) × Scans (M.ops board.now.monoid) (F.post lift.now) plan.now.chunk items.now N.items N.sums }
             ensures made { IfOk result (λ r. Makes (M.ops board.entry.now.monoid) N.sums board.entry.now.board claims.entry.now.board 1 r.made) }
             ensures list { IfOk result (λ r. length r.list.items ≡ length items.entry.now) }
         { first_worker(alloc, board, claims, seat, mine, plan, gate, items, lift) },
         move || -> Result<Made<M::Item>, AllocError>
-            requires { IsSync R.row × (other.board ≡ board.now.board) × (theirs.board ≡ claims.now.board) × (claims.now.chunks ≡ board.now.chunks) × (other.view ≡ blank rest) × (theirs.view ≡ fresh rest) × (1 ≤ rest) × (1 + rest ≤ 64) × F.IsAlwaysCallable lift.now × Scans (M.ops board.now.monoid) (F.post lift.now) plan.now.chunk items.now N.items N.sums }
+            requires { IsSync R.row × (other.board ≡ board.now.board) × (theirs.board ≡ claims.now.board) × (claims.now.chunks ≡ board.now.chunks) × (other.view ≡ blank rest) × (theirs.view ≡ fresh rest) × (1 ≤ rest) × (1 + rest ≤ 64) × All (F.pre lift.now) items.now × Scans (M.ops board.now.monoid) (F.post lift.now) plan.now.chunk items.now N.items N.sums }
             ensures { IfOk result (λ r. Makes (M.ops board.entry.now.monoid) N.sums board.entry.now.board claims.entry.now.board rest r) }
         {
             run(

@@ -34,7 +34,7 @@ fn total<T: Copy, M: WordMonoid, N: Chunks<M::Item>, F: Fn(T) -> M::Item>(
     size: u32,
     out: &[M::Item],
 ) -> M::Item
-    requires callable { F.IsAlwaysCallable lift.now }
+    requires callable { All (F.pre lift.now) items.now }
     requires scans { Scans (M.ops monoid.now) (F.post lift.now) size items.now N.items N.sums }
     requires out { out.now ≡ prefixes_from (M.ops monoid.now) N.items 0 (length N.items) }
     ensures { result ≡ fold_of (M.ops monoid.now) N.items }
@@ -84,7 +84,7 @@ fn scan_named<
     lift: &F,
 ) -> Result<Vec<M::Item>, AllocError>
     requires len { length items.now < 2 ^ 62 }
-    requires callable { F.IsAlwaysCallable lift.now }
+    requires callable { All (F.pre lift.now) items.now }
     requires scans { Scans (M.ops monoid.now) (F.post lift.now) plan.now.chunk items.now N.items N.sums }
     requires names { Names (M.ops monoid.now) N.sums N.sum_codes N.prefix_codes }
     ensures { IfOk result (λ v. v.items ≡ prefixes (M.ops monoid.now) N.items) }
@@ -168,8 +168,8 @@ pub fn scan<
     lift: &F,
 ) -> Result<Vec<M::Item>, AllocError>
     requires len { length items.now < 2 ^ 62 }
-    requires callable { F.IsAlwaysCallable lift.now }
-    requires lifts { (x : T) (r : M.Item) → F.post lift.now x r → r ≡ (M.ops monoid.now).decode (K.code_of x) }
+    requires callable { All (F.pre lift.now) items.now }
+    requires lifts { All (λ x. (r : M.Item) → F.post lift.now x r → r ≡ (M.ops monoid.now).decode (K.code_of x)) items.now }
     requires accepted { All (λ x. IsItem (M.ops monoid.now) ((M.ops monoid.now).decode (K.code_of x))) items.now }
     ensures { IfOk result (λ v. v.items ≡ prefixes (M.ops monoid.now) (map (λ x. (M.ops monoid.now).decode (K.code_of x)) items.now)) }
 {

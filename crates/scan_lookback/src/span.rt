@@ -1,5 +1,5 @@
 //! Folds and prefixes of a slice of items.
-ghost use Rattle.std.specs.Prelude.{◌≡◌, ◌++◌, List, length, fold, IfOk};
+ghost use Rattle.std.specs.Prelude.{◌≡◌, ◌++◌, List, length, fold, IfOk, All};
 ghost use Rattle.word_monoid.specs.Monoid.{IsItem};
 ghost use Rattle.word_monoid.specs.Folds.{fold_of};
 ghost use Rattle.scan_lookback.specs.Cuts.{Lifts, GivesItems, running};
@@ -13,7 +13,7 @@ pub(crate) fn fold_slice<T: Copy, M: WordMonoid, F: Fn(T) -> M::Item>(
     part: &[T],
     lift: &F,
 ) -> M::Item
-    requires callable { F.IsAlwaysCallable lift.now }
+    requires callable { All (F.pre lift.now) part.now }
     requires items { GivesItems (F.post lift.now) (M.ops monoid.now) part.now }
     ensures { (lifted : List M.Item) → Lifts (F.post lift.now) part.now lifted → result ≡ fold_of (M.ops monoid.now) lifted }
 {
@@ -33,7 +33,7 @@ pub(crate) fn run_onto<T: Copy, M: WordMonoid, F: Fn(T) -> M::Item>(
     start: M::Item,
     out: &mut Vec<M::Item>,
 ) -> Result<M::Item, AllocError>
-    requires callable { F.IsAlwaysCallable lift.now }
+    requires callable { All (F.pre lift.now) part.now }
     requires items { GivesItems (F.post lift.now) (M.ops monoid.now) part.now }
     requires start { IsItem (M.ops monoid.now) start }
     ensures listed { IfOk result (λ _. (lifted : List M.Item) → Lifts (F.post lift.now) part.now lifted → out.new.items ≡ out.old.items ++ running (M.ops monoid.now) start lifted) }
@@ -56,7 +56,7 @@ pub(crate) fn run_slice<T: Copy, M: WordMonoid, F: Fn(T) -> M::Item>(
     lift: &F,
     start: M::Item,
 ) -> Result<Vec<M::Item>, AllocError>
-    requires callable { F.IsAlwaysCallable lift.now }
+    requires callable { All (F.pre lift.now) part.now }
     requires items { GivesItems (F.post lift.now) (M.ops monoid.now) part.now }
     requires start { IsItem (M.ops monoid.now) start }
     ensures { IfOk result (λ v. (lifted : List M.Item) → Lifts (F.post lift.now) part.now lifted → v.items ≡ running (M.ops monoid.now) start lifted) }
@@ -74,7 +74,7 @@ pub(crate) fn run_into<T: Copy, M: WordMonoid, F: Fn(T) -> M::Item>(
     start: M::Item,
     out: &mut [M::Item],
 )
-    requires callable { F.IsAlwaysCallable lift.now }
+    requires callable { All (F.pre lift.now) part.now }
     requires items { GivesItems (F.post lift.now) (M.ops monoid.now) part.now }
     requires start { IsItem (M.ops monoid.now) start }
     requires wide { length out.old ≡ length part.now }

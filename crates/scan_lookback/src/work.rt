@@ -28,7 +28,7 @@ impl<'a, M: WordMonoid, N: Chunks<M::Item>> ScanBoard<'a, M, N> {
         requires boards { (seat.old.board ≡ self.now.board) × (mine.old.board ≡ claims.now.board) × (claims.now.chunks ≡ self.now.chunks) }
         requires unspent { 0 < mine.old.view.share }
         requires even { Even mine.old.view seat.old.view }
-        requires callable { F.IsAlwaysCallable lift.now }
+        requires callable { All (F.pre lift.now) items.now }
         requires scans { Scans (M.ops self.now.monoid) (F.post lift.now) plan.now.chunk items.now N.items N.sums }
         ensures boards { (seat.new.board ≡ seat.old.board) × (mine.new.board ≡ mine.old.board) }
         ensures shares { (seat.new.view.share ≡ seat.old.view.share) × (mine.new.view.weight ≡ mine.old.view.weight) }

@@ -2,7 +2,8 @@ use Rattle.std.proofs.Common.{◌≡◌, ◌<◌, ◌*◌, ◌∙◌, length, ap
 use Rattle.word_monoid.specs.Monoid.{IsItem}
 use Rattle.chunk_seats.specs.Chunks.{chunk_count}
 use Rattle.scan_lookback.proofs.OneWorker.{before_none, joined_none, before_next, join_next, before_all, chunk_lifts}
-use Rattle.scan_lookback.proofs.Cutting.{chunk_inside, gives_chunk}
+use Rattle.scan_lookback.proofs.Cutting.{chunk_inside, gives_chunk, all_chunk}
+use Rattle.scan_lookback.proofs.alone.scan_alone.Given as given
 use Rattle.scan_lookback.proofs.alone.scan_alone.Goals as goal
 
 pub loop-c-init : goal.loop-c-init
@@ -39,3 +40,6 @@ returns g c =
     let size = c.args.plan.now.chunk in
     let end : c.loop-c.c ≡ c.args.count = omega arith in
     before_all (g.M.WordMonoid.ops m) size g.N.Chunks.items c.loop-c.c c.loop-c.sum _ _ c.args.plan.now.chunk_in_range.0 (end ∙ c.requires.count ∙ ap (chunk_count size) (sym c.requires.scans.lifts.as_many)) c.loop-c.invariant.listed c.loop-c.invariant.joined c.in_ok-push.ensures.items
+
+pub run_onto-requires-clause-callable : goal.run_onto-requires-clause-callable
+run_onto-requires-clause-callable g c = all_chunk (given.F-pre g c.args.lift.now) c.args.items.now _ c.args.plan.now.chunk c.loop-c.c c.chunk_slice.ensures c.requires.callable

@@ -3,7 +3,8 @@ use Rattle.std.proofs.lemmas.List.FromFn.{length-map-range_with_len, get_or-map-
 use Rattle.word_monoid.specs.Monoid.{IsItem}
 use Rattle.word_monoid.specs.Folds.{prefix_of}
 use Rattle.word_monoid.proofs.Folds.{prefix_item}
-use Rattle.scan_lookback.proofs.Cutting.{piece_near, piece_starts, piece_gives, piece_filled}
+use Rattle.scan_lookback.proofs.Cutting.{piece_near, piece_starts, piece_gives, piece_filled, all_range}
+use Rattle.scan_lookback.proofs.fill.fill_piece.Given as given
 use Rattle.scan_lookback.proofs.fill.fill_piece.Goals as goal
 
 pub offset_bounds-starts-c : goal.offset_bounds-starts-c
@@ -42,3 +43,6 @@ returns g c =
     let near = piece_near (g.M.WordMonoid.ops m) _ c.args.size c.args.items.now g.N.Chunks.items g.N.Chunks.sums c.requires.scans (g.met.M.WordMonoid.lawful m) c.requires.size.0 c.first_chunk-c.result c.args.from (length c.args.piece.now) c.first_chunk-c.ensures place.2 place.1 in
     let is = c.index-starts-c.is ∙ (ap (λ l. get_or l c.first_chunk-c.result c.index-starts-c.result) c.requires.starts ∙ get_or-map-range_with_len (prefix_of (g.M.WordMonoid.ops m) g.N.Chunks.sums) 0 (length g.N.Chunks.sums) c.first_chunk-c.result c.first_chunk-c.result c.index-starts-c.result near (omega arith)) in
     piece_filled (g.M.WordMonoid.ops m) _ c.args.size c.args.items.now g.N.Chunks.items g.N.Chunks.sums c.requires.scans (g.met.M.WordMonoid.lawful m) c.requires.size.0 c.first_chunk-c.result c.args.from (length c.args.piece.now) c.first_chunk-c.ensures place.2 place.1 _ c.stretch-part.ensures c.index-starts-c.result is _ c.run_into.ensures
+
+pub run_into-requires-clause-callable : goal.run_into-requires-clause-callable
+run_into-requires-clause-callable g c = all_range (given.F-pre g c.args.lift.now) c.args.items.now _ c.args.from (length c.args.piece.now) c.stretch-part.ensures c.requires.callable

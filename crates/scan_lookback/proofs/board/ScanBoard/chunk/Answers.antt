@@ -1,8 +1,9 @@
 use Rattle.std.proofs.Common.{◌≡◌, ◌<◌, length, ap, ◌∙◌, arith, sym, subst}
 use Rattle.word_monoid.specs.Folds.{prefix_of}
 use Rattle.scan_lookback.specs.Cuts.{chunk_prefixes}
-use Rattle.scan_lookback.proofs.Cutting.{chunk_starts, gives_chunk, list_of_chunk, scans_as}
+use Rattle.scan_lookback.proofs.Cutting.{chunk_starts, gives_chunk, list_of_chunk, scans_as, all_chunk}
 use Rattle.scan_lookback.proofs.Working.{if_ok}
+use Rattle.scan_lookback.proofs.board.ScanBoard.chunk.Given as given
 use Rattle.scan_lookback.proofs.board.ScanBoard.chunk.Goals as goal
 
 pub chunk_slice-requires : goal.chunk_slice-requires
@@ -27,3 +28,6 @@ returns-clause-list g c =
     if_ok _ _ c.run_slice.result c.run_slice.ensures (λ v runs.
     list_of_chunk (g.M.WordMonoid.ops k) _ c.args.size c.args.items.now g.N.Chunks.items g.N.Chunks.sums scans (g.met.M.WordMonoid.lawful k) c.requires.size c.args.c near _ c.chunk_slice.ensures c.publish-start.result start v.items runs
     ∙ ap (λ k. chunk_prefixes (g.M.WordMonoid.ops k) c.args.size g.N.Chunks.items c.args.c) same)
+
+pub run_slice-requires-clause-callable : goal.run_slice-requires-clause-callable
+run_slice-requires-clause-callable g c = all_chunk (given.F-pre g c.args.lift.now) c.args.items.now _ c.args.size c.args.c c.chunk_slice.ensures c.requires.callable
