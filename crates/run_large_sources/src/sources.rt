@@ -1,0 +1,123 @@
+//! Sources of many bytes.
+
+use std::alloc::{AllocError, Global};
+
+// Puts a piece of text behind another one so many times.
+fn repeat(text: &mut Vec<u8>, piece: &[u8], count: u32) -> Result<(), AllocError> {
+    for _ in 0..count {
+        text.extend_from_slice(piece)?;
+    }
+    Ok(())
+}
+
+/// So many variables, each of which takes a word of the frame of `main`.
+pub(crate) fn variables(alloc: Global, count: u32) -> Result<Vec<u8>, AllocError> {
+    let mut text = b"fn main(): int {".to_vec(alloc)?;
+    for number in 0..count {
+        let declaration = format!(in alloc; " var v{number}: int = 0;")?;
+        text.extend_from_slice(declaration.as_bytes())?;
+    }
+    text.extend_from_slice(b" }")?;
+    Ok(text)
+}
+
+/// So many statements of one word each.
+pub(crate) fn zeros(alloc: Global, count: u32) -> Result<Vec<u8>, AllocError> {
+    let mut text = b"fn main(): int {".to_vec(alloc)?;
+    repeat(&mut text, b"0;", count)?;
+    text.push(b'}')?;
+    Ok(text)
+}
+
+/// White space alone.
+pub(crate) fn spaces(alloc: Global, count: usize) -> Result<Vec<u8>, AllocError> {
+    vec![in alloc; b' '; count]
+}
+
+/// A program whose value is an expression that begins and ends so many times with these pieces.
+pub(crate) fn around(
+    alloc: Global,
+    before: &[u8],
+    count: u32,
+    middle: &[u8],
+    behind: &[u8],
+) -> Result<Vec<u8>, AllocError> {
+    let mut text = b"fn f(var a: int): int { return a; } fn main(): int { var x: int = 1; return ".to_vec(alloc)?;
+    repeat(&mut text, before, count)?;
+    text.extend_from_slice(middle)?;
+    repeat(&mut text, behind, count)?;
+    text.extend_from_slice(b"; }")?;
+    Ok(text)
+}
+
+/// A program with a statement inside so many others.
+pub(crate) fn blocks(
+    alloc: Global,
+    before: &[u8],
+    count: u32,
+    behind: &[u8],
+) -> Result<Vec<u8>, AllocError> {
+    let mut text = b"fn main(): int { var x: int = 1; var y: int = 0; ".to_vec(alloc)?;
+    repeat(&mut text, before, count)?;
+    text.extend_from_slice(b" y = y + 1; ")?;
+    repeat(&mut text, behind, count)?;
+    text.extend_from_slice(b" return y; }")?;
+    Ok(text)
+}
+
+/// One line with a name of `length` bytes in a declaration and in so many sums.
+pub(crate) fn long_names(alloc: Global, length: usize, count: u32) -> Result<Vec<u8>, AllocError> {
+    let name = vec![in alloc; b'n'; length]?;
+    let mut text = b"fn main(): int { var ".to_vec(alloc)?;
+    text.extend_from_slice(&name)?;
+    text.extend_from_slice(b": int = 1; ")?;
+    for _ in 0..count {
+        text.extend_from_slice(&name)?;
+        text.extend_from_slice(b" = ")?;
+        text.extend_from_slice(&name)?;
+        text.extend_from_slice(b" + 1; ")?;
+    }
+    text.extend_from_slice(b"return ")?;
+    text.extend_from_slice(&name)?;
+    text.extend_from_slice(b"; }")?;
+    Ok(text)
+}
+
+/// A comment of so many bytes behind a program.
+pub(crate) fn comment(alloc: Global, count: u32) -> Result<Vec<u8>, AllocError> {
+    let mut text = b"fn main(): int { return 7; } //".to_vec(alloc)?;
+    repeat(&mut text, b"/", count)?;
+    Ok(text)
+}
+
+/// So many functions besides the first one, each of which adds one to what the one before it gives.
+pub(crate) fn calls_in_a_row(alloc: Global, count: u32) -> Result<Vec<u8>, AllocError> {
+    let mut text = b"fn f0(): int { return 0; }\n".to_vec(alloc)?;
+    for number in 0..count {
+        let next = u64::from(number) + 1;
+        let function = format!(in alloc; "fn f{next}(): int {{ return f{number}[] + 1; }}\n")?;
+        text.extend_from_slice(function.as_bytes())?;
+    }
+    let main = format!(in alloc; "fn main(): int {{ return f{count}[]; }}\n")?;
+    text.extend_from_slice(main.as_bytes())?;
+    Ok(text)
+}
+
+/// So many functions that give 0, and `main`, which calls the first of them.
+pub(crate) fn names(alloc: Global, count: u32) -> Result<Vec<u8>, AllocError> {
+    let mut text = Vec::new(alloc);
+    for number in 0..count {
+        let function = format!(in alloc; "fn f{number}(): int {{ }}\n")?;
+        text.extend_from_slice(function.as_bytes())?;
+    }
+    text.extend_from_slice(b"fn main(): int { return f0[]; }\n")?;
+    Ok(text)
+}
+
+/// A call of a function without parameters with so many arguments.
+pub(crate) fn arguments(alloc: Global, count: u32) -> Result<Vec<u8>, AllocError> {
+    let mut text = b"fn f(): int { return 0; } fn main(): int { return f[0".to_vec(alloc)?;
+    repeat(&mut text, b", 0", count.saturating_sub(1))?;
+    text.extend_from_slice(b"]; }")?;
+    Ok(text)
+}
