@@ -11,7 +11,7 @@ use code_rules::numbers_are_small;
 use front_end::{Analysis, Refusal, limits_come_last, place};
 use par_passes::Passes;
 use row_laws::rows_are_few;
-use rv_emit::{CodeError, emit};
+use rv_emit::CodeError;
 use rv_regs::{FrameError, Frames, depths, frames};
 
 // The frames of the functions.
@@ -54,7 +54,7 @@ fn emitted(
 {
     limits_come_last();
     numbers_are_small();
-    match emit(crew, &analysis.rows, &analysis.names, depths, frames) {
+    match rv_emit::code(crew, &analysis.rows, &analysis.names, depths, frames) {
         Ok(words) => Ok(words),
         Err(CodeError::Large { bytes }) => Err(Refusal::Limit {
             code: 603,

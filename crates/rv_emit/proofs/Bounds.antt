@@ -59,9 +59,6 @@ accepted f n low k d l =
     ap (λ x. nat_lt x (2 ^ 62)) e ∙ lt-ltb (f k) (2 ^ 62) (low k (omega arith))
 
 module _ (c : Columns) where
-  pub sizes_accepted : All (λ x. nat_lt x (2 ^ 62) ≡ true) (map (size_of c) (rows_of c))
-  sizes_accepted = accepted (size_of c) (length c.kinds.now) (λ k l. omega arith)
-
   pub sums_small : length c.kinds.now ≤ 33554432 → (k : ℕ) → get_or (sums_of c) k 0 ≤ 144115188042301440
   sums_small few k =
       let many = length-map-range_with_len (size_of c) 0 (length c.kinds.now) in

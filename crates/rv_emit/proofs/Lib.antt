@@ -3,4 +3,6 @@ mod Bounds
 mod Parts
 mod Placed
 mod Whole
+mod Sized
 mod Ready
+mod Worked

@@ -1,14 +1,17 @@
 -- The columns of an accepted program are what passes ask of them.
-use Rattle.std.proofs.Common.{◌≡◌, ℕ, ◌+◌, ◌*◌, ◌<◌, ◌≤◌, All, List, length, map, min, get_or, ◌∙◌, arith}
-use Rattle.std.specs.List.{range_with_len}
+use Rattle.std.proofs.Common.{◌≡◌, ℕ, ◌*◌, ◌<◌, ◌≤◌, All, List, length, Option, sym, subst, ◌∙◌, arith}
 use Rattle.scatter_rows.specs.Scattered.{AreDistinct}
+use Rattle.source_meaning.specs.declared.kinds.Kind.{Kind}
 use Rattle.source_meaning.specs.Ast.{Program}
+use Rattle.code_rules.specs.Pieces.{places}
 use Rattle.rv_select.specs.declared.columns.Columns.{Columns}
+use Rattle.rv_select.specs.declared.known.Frame.{Frame}
 use Rattle.rv_select.proofs.Kept.{apart, fit}
 use Rattle.rv_select.proofs.InReach.{ready}
-use Rattle.rv_select.specs.Accepted.{IsReady}
-use Rattle.rv_emit.specs.OfColumns.{rows_of, sums_of, head_size_of, words_many_of, kept_places_of, kept_values_of, AreAccepted, AreChildren, AreLaidOf}
+use Rattle.rv_select.specs.Accepted.{IsAccepted, IsReady}
+use Rattle.rv_emit.specs.OfColumns.{words_many_of, kept_places_of, kept_values_of, AreAccepted, AreChildren, AreLaidOf}
 use Rattle.rv_emit.proofs.Placed.{all_by, many}
+use Rattle.rv_emit.proofs.Sized.{places_are}
 
 module _ (c : Columns) (meant : List ℕ) (main : ℕ) (p : Program) (good : AreAccepted c meant main p) where
   pub kept_apart : AreDistinct (kept_places_of c)
@@ -22,11 +25,22 @@ module _ (c : Columns) (meant : List ℕ) (main : ℕ) (p : Program) (good : Are
   kept_small = all_by (λ m. m ≤ 33554432) (kept_values_of c) (λ i lt.
       (fit c.kinds.now c.parents.now c.places.now c.depths.now c.functions.now c.numbers.now c.ends.now c.frames.now p good.2.columns i (omega (arith, many c))).1)
 
-pub laid_by : (c : Columns) (sums at children : List ℕ) (head : ℕ) → sums ≡ sums_of c → head ≡ head_size_of c → at ≡ map (λ k. min (head + get_or sums k 0) 4294967295) (range_with_len 0 (length c.kinds.now)) → AreChildren c children → AreLaidOf c at children
-laid_by c sums at children head s h a put = record {
-  at_are = a ∙ (λ i. map (λ (k : ℕ). min (h i + get_or (s i) k 0) 4294967295) (rows_of c));
-  children_are = put;
-}
+  -- the places of the program's pieces are the column of places
+  pub laid_by : (at children : List ℕ) → at ≡ places p → AreChildren c children → AreLaidOf c at children
+  laid_by at children is put = record {
+    at_are = is ∙ sym (places_are c meant main p good);
+    children_are = put;
+  }
+
+-- columns that are lent by lists of these values
+pub accepted_by : (kinds : List Kind) (parents spots depths functions numbers ends : List ℕ) (frames : List Frame) (meant : List ℕ) (p : Program) (meant_by : ℕ → Option ℕ) (number_by : ℕ → ℕ) (main : ℕ)
+    → (fs ns es : List ℕ) (rs : List Frame) → fs ≡ functions → ns ≡ numbers → es ≡ ends → rs ≡ frames
+    → IsAccepted kinds parents spots depths functions numbers ends frames meant p meant_by number_by main → IsAccepted kinds parents spots depths fs ns es rs meant p meant_by number_by main
+accepted_by kinds parents spots depths functions numbers ends frames meant p meant_by number_by main fs ns es rs f n e r good =
+    subst (λ (x : List ℕ). IsAccepted kinds parents spots depths x ns es rs meant p meant_by number_by main) (sym f)
+    (subst (λ (x : List ℕ). IsAccepted kinds parents spots depths functions x es rs meant p meant_by number_by main) (sym n)
+    (subst (λ (x : List ℕ). IsAccepted kinds parents spots depths functions numbers x rs meant p meant_by number_by main) (sym e)
+    (subst (λ (x : List Frame). IsAccepted kinds parents spots depths functions numbers ends x meant p meant_by number_by main) (sym r) good)))
 
 pub ready_by : (c : Columns) (meant at children : List ℕ) (main : ℕ) (p : Program) → AreAccepted c meant main p → AreLaidOf c at children → words_many_of c ≤ 262144
     → IsReady c.kinds.now c.parents.now c.places.now c.depths.now c.functions.now c.numbers.now c.ends.now c.frames.now meant at children main

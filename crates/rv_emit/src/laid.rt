@@ -1,14 +1,14 @@
-//! Columns of places: of each row's first word, and of the children that are kept at their parents.
+//! The children that are kept at their parents.
 ghost use Rattle.std.specs.Prelude.{◌≡◌, ℕ, ◌+◌, ◌<◌, ◌≤◌, ◌^◌, min, All, length, map, slice_index_or, IfOk};
 ghost use Rattle.std.specs.List.{range_with_len};
 ghost use Rattle.scatter_rows.specs.Scattered.{AreDistinct};
 ghost use Rattle.rv_select.specs.Layout.{is_kept as is_kept_child, kept_from};
-ghost use Rattle.rv_emit.specs.OfColumns.{rows_of, sums_of, above_of, begin_step_of, begins_of, kept_of, kept_places_of, kept_values_of, AreChildren};
+ghost use Rattle.rv_emit.specs.OfColumns.{rows_of, above_of, begin_step_of, begins_of, kept_of, kept_places_of, kept_values_of, AreChildren};
 
 use crate::children::{marked_rows, parents_of};
 use crate::functions::narrow;
 use par_passes::{Lift, Passes};
-use rv_select::{Columns, begin_step, is_kept, kept_value, place};
+use rv_select::{Columns, begin_step, is_kept, kept_value};
 use std::alloc::AllocError;
 use word_monoid::Greatest;
 
@@ -17,24 +17,6 @@ pub(crate) fn wide(column: &[u64], k: u32) -> u64
     ensures { result ≡ slice_index_or column.now k 0 }
 {
     column.get(k as usize).copied().unwrap_or(0)
-}
-
-/// The place of each row's first word, from the sums of sizes.
-pub(crate) fn row_places(
-    crew: &impl Passes,
-    sums: &[u64],
-    head: u64,
-    count: u32,
-) -> Result<Vec<u32>, AllocError>
-    requires head { head < 2 ^ 62 }
-    requires sums { (k : ℕ) → slice_index_or sums.now k 0 < 2 ^ 62 }
-    ensures { IfOk result (λ v. v.items ≡ map (λ k. min (head + slice_index_or sums.now k 0) 4294967295) (range_with_len 0 count)) }
-{
-    let at = |k: u32| -> u32
-        requires { (head < 2 ^ 62) × ((k : ℕ) → slice_index_or sums.now k 0 < 2 ^ 62) }
-        ensures { result ≡ min (head + slice_index_or sums.entry.now k 0) 4294967295 }
-    { place(head, wide(sums, k)) };
-    crew.tabulate(count, &at)
 }
 
 // What tells where expressions begin, row by row.

@@ -7,8 +7,8 @@ use Rattle.verdict.specs.Verdict.{Verdict, IsVerdict, Limited}
 use Rattle.pareas_core.proofs.Large.{compilable}
 use Rattle.pareas_core.proofs.code.emitted.Goals as goal
 
-pub emit-requires-clause-program : goal.emit-requires-clause-program
-emit-requires-clause-program g c κs within =
+pub code-requires-clause-program : goal.code-requires-clause-program
+code-requires-clause-program g c κs within =
     let t = c.requires.framed.0 in
     let f = c.requires.framed.1 in
     let k = f.analyzed.checked in
