@@ -11,8 +11,10 @@ mod words;
 
 pub use analysis::{Analysis, MOST_SOURCE, front};
 pub use laws::limits_come_last;
+pub use phases::{lexed, named, parsed, shaped, typed};
 pub use places::place;
 pub use refusal::Refusal;
+pub use tables::language_tables;
 
 #[cfg(test)]
 mod tests;

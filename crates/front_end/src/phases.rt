@@ -24,7 +24,7 @@ use tree_passes::{ShapeFault, rows};
 use type_pass::{TypeFault, check};
 
 /// The tokens of the source.
-pub(crate) fn lexed(crew: &impl Passes, source: &[u8]) -> Result<Tokens, Refusal>
+pub fn lexed(crew: &impl Passes, source: &[u8]) -> Result<Tokens, Refusal>
     requires fits { length source.now ≤ 1048576 }
     ensures ok { IfOk result (λ t. AreTokens source.now t) }
     ensures refused { IfErr result (IsRefusedBy source.now) }
@@ -37,7 +37,7 @@ pub(crate) fn lexed(crew: &impl Passes, source: &[u8]) -> Result<Tokens, Refusal
 }
 
 /// The left parse of the source's tokens.
-pub(crate) fn parsed(
+pub fn parsed(
     crew: &impl Passes,
     tables: &Tables,
     source: &[u8],
@@ -64,7 +64,7 @@ pub(crate) fn parsed(
 }
 
 /// The rows of the source's syntax tree.
-pub(crate) fn shaped(
+pub fn shaped(
     crew: &impl Passes,
     source: &[u8],
     tokens: &Tokens,
@@ -86,7 +86,7 @@ pub(crate) fn shaped(
 }
 
 /// What the source's names mean.
-pub(crate) fn named(
+pub fn named(
     crew: &impl Passes,
     source: &[u8],
     tokens: &Tokens,
@@ -111,7 +111,7 @@ pub(crate) fn named(
 }
 
 /// The types of the source's expressions.
-pub(crate) fn typed(
+pub fn typed(
     crew: &impl Passes,
     source: &[u8],
     tokens: &Tokens,

@@ -22,7 +22,7 @@ fn language_grammar(alloc: Global) -> Result<Grammar, AllocError>
 
 /// The parse tables of the language's grammar. The text of the grammar spells it, and it is LL(1) and LLP(1,1), so the only refusal is that
 /// memory is out.
-pub(crate) fn language_tables(alloc: Global) -> Result<Tables, AllocError>
+pub fn language_tables(alloc: Global) -> Result<Tables, AllocError>
     ensures tables { IfOk result (λ t. AreTablesOf grammar t) }
     ensures reduced { IfOk result (λ _. IsReduced grammar) }
 {
