@@ -1,6 +1,6 @@
 // The whole text.
 
-ghost use Rattle.std.specs.Prelude.{◌≡◌, ◌≤◌, ◌++◌, IfOk};
+ghost use Rattle.std.specs.Prelude.{◌≡◌, ◌++◌, IfOk};
 ghost use Rattle.drill_source.specs.Drill.{drawn, drill_text, function_line, main_line, next_state};
 
 use crate::generator::Generator;
@@ -34,8 +34,8 @@ fn push_main(alloc: Global, text: &mut Vec<u8>, last: u32) -> Result<(), AllocEr
 }
 
 /// The text of a seed, with so many functions beside `main`: a line each, of which each calls the one before it.
+/// With none, `main` is left alone and calls a function that isn't there.
 pub fn source(alloc: Global, seed: u32, functions: u32) -> Result<Vec<u8>, AllocError>
-    requires { 1 ≤ functions }
     ensures { IfOk result (λ text. text.items ≡ drill_text seed functions) }
 {
     let mut generator = Generator::new(seed);
@@ -43,6 +43,6 @@ pub fn source(alloc: Global, seed: u32, functions: u32) -> Result<Vec<u8>, Alloc
     for number in 0..functions {
         push_function(alloc, &mut text, &mut generator, number)?;
     }
-    push_main(alloc, &mut text, functions - 1)?;
+    push_main(alloc, &mut text, functions.saturating_sub(1))?;
     Ok(text)
 }

@@ -19,7 +19,8 @@ returns c =
     let behind = c.loop-number-test.false in
     let within = c.loop-number.auto.number-end in
     let none : c.args.functions - c.loop-number.number ≡ 0 = omega arith in
-    let last : c.loop-number.number - 1 ≡ c.args.functions - 1 = omega arith in
+    let called = c.saturating_sub.ensures in
+    let last : c.loop-number.number - 1 ≡ c.saturating_sub.result = omega arith in
     c.in_ok-push_main.ensures
     ∙ ap (λ j. c.loop-number.text.items ++ main_line j) (sym last)
     ∙ sym (c.loop-number.invariant ∙ ap (λ n. c.loop-number.text.items ++ function_lines n c.loop-number.number c.loop-number.generator.state) none)
