@@ -1,11 +1,14 @@
 -- A parse of one command in which `clap` finds no fault keeps good rows alone.
-use Rattle.std.proofs.Common.{arith, ◌≡◌, ◌&&◌, ◌||◌, ℕ, Bool, cond, true, false, zero, suc, refl, subst, List, [], ◌∷◌, length, drop, Option, Some, None, inl, inr}
+use Rattle.std.proofs.Common.{arith, ◌≡◌, ◌&&◌, ◌||◌, not, ℕ, Bool, cond, true, false, zero, suc, refl, subst, List, [], ◌∷◌, length, drop, Option, Some, None, inl, inr}
 use Rattle.std.proofs.lemmas.Bool.{ne_eqb}
+use Rattle.std.specs.List.{list_any}
+use Rattle.clap.specs.Takes.{is_given}
+use Rattle.clap.specs.Facts.{explicit_source}
 use Rattle.std.specs.Prelude.{find, fold, slice_get, encode_utf8, is_some}
 use Rattle.std.specs.Option.{option_map_or}
 use Rattle.std.specs.Str.{bytes_eq, chars}
 use Rattle.clap.specs.Lexer.{long_of, short_of}
-use Rattle.clap.specs.Kinds.{Kinds, or_else, request_kinds}
+use Rattle.clap.specs.Kinds.{Kinds, or_else, request_kinds, check_kinds}
 use Rattle.clap.specs.Simple.{Shape}
 use Rattle.clap.specs.Walk.{Text, Rule, Row, Held, Names, Outcome, done, waits, plain, refused, Step, next, trailing, subcommand, value, Waiting, idle, option, positional, Walk, arg_by_id, arg_by_long, arg_by_short, arg_by_index, takes_values, settled, settled_rows, used_by_id, reacted, option_met, flag_met, long_met, attached_value, short_met, bundle_step, bundle_met, bundle, plain_word, option_word, after_flag, short_or_plain, long_or_other, subcommand_met, subcommand_or_other, word_met, is_pending, takes_several, to_positional, after_step, walked_from, walked, walk_from, has_row, with_default, default_rows, with_values, is_empty, finished, nothing_held, rows_after, reading_by, action_of, first_of, walk}
 use Rattle.clap.specs.Faults.{use_fault, settle_fault, react_fault, option_fault, long_fault, short_fault, bundle_step_fault, flags_fault, bundle_fault, flag_word_fault, other_fault, word_fault, positional_fault, stray_fault, step_fault, turn_fault, walk_fault, given_default_fault, default_fault, defaults_fault, values_fault, check_fault, level_fault}
@@ -213,28 +216,73 @@ made_default rows a d e = rw e (go (has_row a.id rows) refl)
     go true h = h
     go false h = values_row a.id (reading_by a) DefaultValue (d ∷ []) rows
 
--- the rule with this id has one default
-pub data HasDefault (id : Text) : List Rule → Type 0 where
-  here : {a : Rule} {rest : List Rule} (d : Text) → a.id ≡ id → a.defaults ≡ d ∷ [] → HasDefault id (a ∷ rest)
-  later : {a : Rule} {rest : List Rule} → HasDefault id rest → HasDefault id (a ∷ rest)
+-- ---- required options
 
-default_row : (id : Text) (rules : List Rule) (rows : List Row) → HasDefault id rules → has_row id (fold with_default rows rules) ≡ true
-default_row id [] rows x = elim x [ ]
-default_row id (a ∷ rest) rows (here d same e) =
+-- a rule is required whose option the words don't give
+abbrev lacks : List Row → List Rule → Bool
+lacks rows rules = list_any (λ a. a.required && not (is_given a.id rows)) rules
+
+given_row : (id : Text) (rows : List Row) → is_given id rows ≡ true → has_row id rows ≡ true
+given_row id [] h = cc
+given_row id (r ∷ rs) h = go (bytes_eq r.id id) h (given_row id rs)
+  where
+    go : (b : Bool) → option_map_or (λ r. explicit_source r.source) (cond b (Some r) (find (λ r. bytes_eq r.id id) rs)) false ≡ true
+        → (is_given id rs ≡ true → has_row id rs ≡ true) → (b || has_row id rs) ≡ true
+    go true h rec = refl
+    go false h rec = rec h
+
+neither : (a b : Bool) → (a || b) ≡ false → (a ≡ false) × (b ≡ false)
+neither true b h = cc
+neither false b h = (refl, h)
+
+given : (wanted is : Bool) → wanted ≡ true → (wanted && not is) ≡ false → is ≡ true
+given true true e h = refl
+given true false e h = cc
+given false is e h = cc
+
+no_kinds : (help below argument : Bool) → check_kinds help below argument ≡ [] → argument ≡ false
+no_kinds true below argument h = cc
+no_kinds false true argument h = cc
+no_kinds false false true h = cc
+no_kinds false false false h = refl
+
+not_negated : (negates argument : Bool) → (not (negates && false) && argument) ≡ false → argument ≡ false
+not_negated true argument h = h
+not_negated false argument h = h
+
+lacks_none : (s : Shape) (rows : List Row) → check_fault s rows false ≡ [] → lacks rows s.rules ≡ false
+lacks_none s rows h = not_negated s.subcommand_negates_reqs (lacks rows s.rules) (no_kinds _ _ _ h)
+
+-- the rule with this id has one default, or is required
+pub data IsThere (id : Text) : List Rule → Type 0 where
+  here : {a : Rule} {rest : List Rule} (d : Text) → a.id ≡ id → a.defaults ≡ d ∷ [] → IsThere id (a ∷ rest)
+  wanted : {a : Rule} {rest : List Rule} → a.id ≡ id → a.required ≡ true → IsThere id (a ∷ rest)
+  later : {a : Rule} {rest : List Rule} → IsThere id rest → IsThere id (a ∷ rest)
+
+there_row : (id : Text) (rules : List Rule) (rows : List Row) → IsThere id rules → lacks (fold with_default rows rules) rules ≡ false
+    → has_row id (fold with_default rows rules) ≡ true
+there_row id [] rows x h = elim x [ ]
+there_row id (a ∷ rest) rows (here d same e) h =
     keeps_defaults id rest (with_default rows a) (subst (λ (i : Text). has_row i (with_default rows a) ≡ true) same (made_default rows a d e))
-default_row id (a ∷ rest) rows (later h) = default_row id rest (with_default rows a) h
+there_row id (a ∷ rest) rows (wanted same e) h =
+    let end = fold with_default (with_default rows a) rest in
+    let first = neither (a.required && not (is_given a.id end)) (lacks end rest) h in
+    subst (λ (i : Text). has_row i end ≡ true) same (given_row a.id end (given a.required (is_given a.id end) e first.0))
+there_row id (a ∷ rest) rows (later x) h =
+    let end = fold with_default (with_default rows a) rest in
+    there_row id rest (with_default rows a) x (neither (a.required && not (is_given a.id end)) (lacks end rest) h).1
 
 -- ---- a whole level
 
--- the first value of an option with a default passes the test
-pub level_value : (ok : Text → Text → Bool) (s : Shape) (words : List Text) (id : Text) → AreOptions ok s.rules → HasDefault id s.rules
+-- the first value of an option with a default, or of one that is required, passes the test
+pub level_value : (ok : Text → Text → Bool) (s : Shape) (words : List Text) (id : Text) → AreOptions ok s.rules → IsThere id s.rules
     → level_fault s [] nothing_held words false [] ≡ []
     → (t : Text) × (first_of id (rows_after s.rules [] words) ≡ Some t) × (ok id t ≡ true)
-level_value ok s words id options default f =
+level_value ok s words id options there f =
     let end = (walk s.rules [] nothing_held words).held in
     let walked_none = both_none (walk_fault s [] (walk_from nothing_held) words) _ f in
     let settled_none = both_none (settle_fault s.rules s.args_override_self end) _ walked_none.1 in
     let defaults_none = both_none (defaults_fault (settled s.rules end).rows s.rules) (check_fault s (finished s.rules end) false) settled_none.1 in
     let good = defaults_good ok s.rules (settled s.rules end).rows options defaults_none.0
     (settled_good ok s.rules options s.args_override_self end settled_none.0 (walk_good ok s options [] words (walk_from nothing_held) walked_none.0 tt)) in
-    first_good ok id (rows_after s.rules [] words) good (default_row id s.rules (settled s.rules end).rows default)
+    first_good ok id (rows_after s.rules [] words) good (there_row id s.rules (settled s.rules end).rows there (lacks_none s (finished s.rules end) defaults_none.1))

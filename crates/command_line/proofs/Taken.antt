@@ -13,10 +13,10 @@ use Rattle.clap.specs.Simple.{Shape, argument_words, built, entered, filled, wit
 use Rattle.clap.specs.Walk.{Text, Rule, Row, Held, Names, Outcome, done, waits, plain, refused, Step, next, trailing, subcommand, value, Waiting, idle, option, positional, Walk, answers_to, arg_by_index, plain_word, after_flag, long_or_other, short_or_plain, subcommand_met, subcommand_or_other, word_met, to_positional, after_step, walked_from, walked, walk, walk_from, settled, finished, nothing_held, rows_after}
 use Rattle.clap.specs.Faults.{walk_fault, turn_fault, word_fault, other_fault, step_fault, settle_fault, defaults_fault, check_fault, level_fault, entered_fault, built_fault, fault_of}
 use Rattle.clap.proofs.ValueTestLemmas.{accepts-Accepts}
-use Rattle.command_line.specs.Words.{app, number_option, workers_option, chunk_option, steps_option}
-use Rattle.command_line.specs.Ranges.{HasNumber, HasPlan, HasSteps, HasNumbers, of_build, of_run, of_emu, of_table}
+use Rattle.command_line.specs.Words.{app, number_option, with_default, required, workers_option, chunk_option, steps_option, seed_option, functions_option}
+use Rattle.command_line.specs.Ranges.{HasNumber, HasPlan, HasSteps, HasText, HasNumbers, of_build, of_run, of_emu, of_table, of_drill}
 use Rattle.command_line.proofs.Rows.{both_none, AreOptions, IsOption}
-use Rattle.command_line.proofs.Levels.{HasDefault, here, later, level_value}
+use Rattle.command_line.proofs.Levels.{IsThere, here, wanted, later, level_value}
 
 -- ---- the numbers of a subcommand
 
@@ -25,23 +25,30 @@ abbrev tested : Text → Text → Bool
 tested id text =
     if bytes_eq id (codes "workers") then is_unsigned_in 1 64 text
     else if bytes_eq id (codes "chunk") then is_unsigned_in 1 65536 text
+    else if bytes_eq id (codes "seed") then is_unsigned_in 0 4294967295 text
+    else if bytes_eq id (codes "functions") then is_unsigned_in 1 4096 text
     else is_unsigned_in 0 1000000000 text
 
-number_of : (s : Shape) (words : List Text) (id : Text) (low high : ℕ) → AreOptions tested s.rules → HasDefault id s.rules
+number_of : (s : Shape) (words : List Text) (id : Text) (low high : ℕ) → AreOptions tested s.rules → IsThere id s.rules
     → ((t : Text) → tested id t ≡ is_unsigned_in low high t) → level_fault s [] nothing_held words false [] ≡ []
     → HasNumber id low high (rows_after s.rules [] words)
-number_of s words id low high options default same f =
-    let got = level_value tested s words id options default f in
+number_of s words id low high options there same f =
+    let got = level_value tested s words id options there f in
     record { text = got.0; is_first = got.1; in_range = accepts-Accepts false (parsers.Unsigned low high) got.0 (sym (same got.0) ∙ got.2) }
 
-plan_of_words : (s : Shape) (words : List Text) → AreOptions tested s.rules → HasDefault (codes "workers") s.rules → HasDefault (codes "chunk") s.rules
+plan_of_words : (s : Shape) (words : List Text) → AreOptions tested s.rules → IsThere (codes "workers") s.rules → IsThere (codes "chunk") s.rules
     → level_fault s [] nothing_held words false [] ≡ [] → HasPlan (rows_after s.rules [] words)
 plan_of_words s words options workers chunk f =
     (number_of s words (codes "workers") 1 64 options workers (λ t. refl) f, number_of s words (codes "chunk") 1 65536 options chunk (λ t. refl) f)
 
-steps_of_words : (s : Shape) (words : List Text) → AreOptions tested s.rules → HasDefault (codes "steps") s.rules
+steps_of_words : (s : Shape) (words : List Text) → AreOptions tested s.rules → IsThere (codes "steps") s.rules
     → level_fault s [] nothing_held words false [] ≡ [] → HasSteps (rows_after s.rules [] words)
 steps_of_words s words options steps f = number_of s words (codes "steps") 0 1000000000 options steps (λ t. refl) f
+
+text_of_words : (s : Shape) (words : List Text) → AreOptions tested s.rules → IsThere (codes "seed") s.rules → IsThere (codes "functions") s.rules
+    → level_fault s [] nothing_held words false [] ≡ [] → HasText (rows_after s.rules [] words)
+text_of_words s words options seed functions f =
+    (number_of s words (codes "seed") 0 4294967295 options seed (λ t. refl) f, number_of s words (codes "functions") 1 4096 options functions (λ t. refl) f)
 
 -- ---- no word before the subcommand asks for help
 
@@ -163,8 +170,12 @@ help_asked word other e = go (bytes_eq (codes "help") word) refl e
     go false h e = cc
 
 is_number : (name default : Text) (low high : ℕ) → ((t : Text) → is_unsigned_in low high t ≡ tested name t)
-    → IsOption tested (with_index 1 (filled (number_option name (parsers.Unsigned low high) default)))
+    → IsOption tested (with_index 1 (filled (with_default (number_option name (parsers.Unsigned low high)) default)))
 is_number name default low high same = inl (record { sets = refl; one = refl; tested = same })
+
+is_required : (name : Text) (low high : ℕ) → ((t : Text) → is_unsigned_in low high t ≡ tested name t)
+    → IsOption tested (with_index 1 (filled (required (number_option name (parsers.Unsigned low high)))))
+is_required name low high same = inl (record { sets = refl; one = refl; tested = same })
 
 workers_is : IsOption tested (with_index 1 (filled workers_option))
 workers_is = is_number (codes "workers") (codes "4") 1 64 (λ t. refl)
@@ -175,6 +186,12 @@ chunk_is = is_number (codes "chunk") (codes "1024") 1 65536 (λ t. refl)
 steps_is : IsOption tested (with_index 1 (filled steps_option))
 steps_is = is_number (codes "steps") (codes "1000000") 0 1000000000 (λ t. refl)
 
+seed_is : IsOption tested (with_index 1 (filled seed_option))
+seed_is = is_required (codes "seed") 0 4294967295 (λ t. refl)
+
+functions_is : IsOption tested (with_index 1 (filled functions_option))
+functions_is = is_required (codes "functions") 1 4096 (λ t. refl)
+
 plan_options : AreOptions tested (built_sub 0).rules
 plan_options = (workers_is, (chunk_is, (inr refl, tt)))
 
@@ -183,6 +200,9 @@ run_options = (workers_is, (chunk_is, (steps_is, (inr refl, tt))))
 
 emu_options : AreOptions tested (built_sub 2).rules
 emu_options = (steps_is, (inr refl, tt))
+
+drill_options : AreOptions tested (built_sub 4).rules
+drill_options = (seed_is, (functions_is, (workers_is, (chunk_is, (inr refl, tt)))))
 
 build_takes : (word : Text) → Takes word (built_sub 0)
 build_takes word words e f = of_build (plan_of_words (built_sub 0) words plan_options (here _ refl refl) (later (here _ refl refl)) f)
@@ -198,8 +218,13 @@ emu_takes word words e f = of_emu (steps_of_words (built_sub 2) words emu_option
 table_takes : (word : Text) → Takes word (built_sub 3)
 table_takes word words e f = of_table
 
+drill_takes : (word : Text) → Takes word (built_sub 4)
+drill_takes word words e f =
+    of_drill (text_of_words (built_sub 4) words drill_options (wanted refl refl) (later (wanted refl refl)) f)
+    (plan_of_words (built_sub 4) words drill_options (later (later (here _ refl refl))) (later (later (later (here _ refl refl)))) f)
+
 all_take : (word : Text) → bytes_eq word (codes "help") ≡ false → AllShapes (Takes word) (built app).subs
-all_take word other = (build_takes word, (run_takes word, (emu_takes word, (table_takes word, ((λ words e f. absurd (help_asked word other e)), tt)))))
+all_take word other = (build_takes word, (run_takes word, (emu_takes word, (table_takes word, (drill_takes word, ((λ words e f. absurd (help_asked word other e)), tt))))))
 
 -- a subcommand is required
 entered_one : (rows : List Row) (has : Bool) → check_fault (built app).top rows has ≡ [] → has ≡ true

@@ -15,9 +15,13 @@ HasPlan rows = HasNumber (codes "workers") 1 64 rows × HasNumber (codes "chunk"
 abbrev pub HasSteps : List Row → Type 0
 HasSteps rows = HasNumber (codes "steps") 0 1000000000 rows
 
+abbrev pub HasText : List Row → Type 0
+HasText rows = HasNumber (codes "seed") 0 4294967295 rows × HasNumber (codes "functions") 1 4096 rows
+
 -- a subcommand and its options
 pub data HasNumbers (rows : List Row) : Text → Type 0 where
   of_build : HasPlan rows → HasNumbers rows (codes "build")
   of_run : HasPlan rows → HasSteps rows → HasNumbers rows (codes "run")
   of_emu : HasSteps rows → HasNumbers rows (codes "emu")
   of_table : HasNumbers rows (codes "table")
+  of_drill : HasText rows → HasPlan rows → HasNumbers rows (codes "drill")

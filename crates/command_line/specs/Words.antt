@@ -8,28 +8,39 @@ use Rattle.clap.specs.declared.builder.action.ArgAction.TheVariants.{Set}
 use Rattle.clap.specs.declared.builder.value_parser.ValueParser.{ValueParser}
 use Rattle.clap.specs.declared.builder.value_parser.ValueParser.TheVariants as parsers
 use Rattle.command_line.specs.declared.command.Command.{Command}
-use Rattle.command_line.specs.declared.command.Command.TheVariants.{Build, Run, Emu, Table}
+use Rattle.command_line.specs.declared.command.Command.TheVariants.{Build, Run, Emu, Table, Drill}
 
 -- ---- the command
 
--- an option `--name N` with a number, and its default
-abbrev pub number_option : Text → ValueParser → Text → Rule
-number_option name numbers default = record (new_rule name) {
+-- an option `--name N` with a number
+abbrev pub number_option : Text → ValueParser → Rule
+number_option name numbers = record (new_rule name) {
   long = Some name;
   action = Some Set;
   value_names = 1;
-  defaults = default ∷ [];
   parser = Some numbers;
 }
 
+abbrev pub with_default : Rule → Text → Rule
+with_default option default = record option { defaults = default ∷ [] }
+
+abbrev pub required : Rule → Rule
+required option = record option { required = true }
+
 abbrev pub workers_option : Rule
-workers_option = number_option (codes "workers") (parsers.Unsigned 1 64) (codes "4")
+workers_option = with_default (number_option (codes "workers") (parsers.Unsigned 1 64)) (codes "4")
 
 abbrev pub chunk_option : Rule
-chunk_option = number_option (codes "chunk") (parsers.Unsigned 1 65536) (codes "1024")
+chunk_option = with_default (number_option (codes "chunk") (parsers.Unsigned 1 65536)) (codes "1024")
 
 abbrev pub steps_option : Rule
-steps_option = number_option (codes "steps") (parsers.Unsigned 0 1000000000) (codes "1000000")
+steps_option = with_default (number_option (codes "steps") (parsers.Unsigned 0 1000000000)) (codes "1000000")
+
+abbrev pub seed_option : Rule
+seed_option = required (number_option (codes "seed") (parsers.Unsigned 0 4294967295))
+
+abbrev pub functions_option : Rule
+functions_option = required (number_option (codes "functions") (parsers.Unsigned 1 4096))
 
 abbrev pub subcommand : Text → List Rule → Shape
 subcommand name options = record (new_shape name) { rules = options }
@@ -46,11 +57,14 @@ emu_shape = subcommand (codes "emu") (steps_option ∷ [])
 abbrev pub table_shape : Shape
 table_shape = subcommand (codes "table") []
 
+abbrev pub drill_shape : Shape
+drill_shape = subcommand (codes "drill") (seed_option ∷ functions_option ∷ workers_option ∷ chunk_option ∷ [])
+
 -- `pareas`: one of its subcommands is required
 abbrev pub app : App
 app = record {
   top = record (new_shape (codes "pareas")) { subcommand_required = true; has_version = true; is_leaf = false };
-  subs = build_shape ∷ run_shape ∷ emu_shape ∷ table_shape ∷ [];
+  subs = build_shape ∷ run_shape ∷ emu_shape ∷ table_shape ∷ drill_shape ∷ [];
 }
 
 -- ---- what words ask for
@@ -75,6 +89,7 @@ asked_by name rows =
     if bytes_eq name (codes "build") then shared_out Build rows
     else if bytes_eq name (codes "run") then shared_out (Run (number_at (codes "steps") rows)) rows
     else if bytes_eq name (codes "emu") then record { command = Emu (number_at (codes "steps") rows); workers = 1; chunk = 1 }
+    else if bytes_eq name (codes "drill") then shared_out (Drill (number_at (codes "seed") rows) (number_at (codes "functions") rows)) rows
     else record { command = Table; workers = 1; chunk = 1 }
 
 -- what words ask for, of which the first is the program's name; none exactly where clap finds a fault in them

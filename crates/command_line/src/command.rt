@@ -17,4 +17,12 @@ pub enum Command {
     },
     /// Reads the grammar file on the input, and tells how large its parse tables are.
     Table,
+    /// Makes a source text from a seed, compiles it, runs its file on the machine for a million steps, and tells how large all
+    /// became and how the run ended. It reads no input.
+    Drill {
+        /// What the numbers of the text are drawn from.
+        seed: u32,
+        /// How many functions the text has beside `main`, at least one.
+        functions: u32,
+    },
 }

@@ -2,22 +2,21 @@
 
 ghost use Rattle.std.specs.Prelude.{◌≡◌, IfOk, false};
 ghost use Rattle.clap.specs.Words.{app_of, rule_of, shape_of};
-ghost use Rattle.command_line.specs.Words.{app, build_shape, run_shape, emu_shape, table_shape, workers_option, chunk_option, steps_option, number_option};
+ghost use Rattle.command_line.specs.Words.{app, build_shape, run_shape, emu_shape, table_shape, drill_shape, workers_option, chunk_option, steps_option, seed_option, functions_option, number_option, with_default, required};
 
 use clap::builder::ValueParser;
 use clap::{Arg, ArgAction, Command, value_parser};
 use std::alloc::{AllocError, Global};
 
-// An option `--name N` with a number, and its default.
+// An option `--name N` with a number.
 fn number_option<'a>(
     alloc: Global,
     name: &'a str,
     letter: &'a str,
     numbers: ValueParser<'a>,
-    default: &'a str,
     help: &'a str,
 ) -> Arg<'a>
-    ensures rule { rule_of result ≡ number_option name.entry.now numbers.entry default.entry.now }
+    ensures rule { rule_of result ≡ number_option name.entry.now numbers.entry }
     ensures local { result.global ≡ false }
 {
     Arg::new(alloc, name)
@@ -25,8 +24,36 @@ fn number_option<'a>(
         .action(ArgAction::Set)
         .value_name(letter)
         .value_parser(numbers)
-        .default_value(default)
         .help(help)
+}
+
+// An option with a number, and its default.
+fn default_option<'a>(
+    alloc: Global,
+    name: &'a str,
+    letter: &'a str,
+    numbers: ValueParser<'a>,
+    default: &'a str,
+    help: &'a str,
+) -> Arg<'a>
+    ensures rule { rule_of result ≡ with_default (number_option name.entry.now numbers.entry) default.entry.now }
+    ensures local { result.global ≡ false }
+{
+    number_option(alloc, name, letter, numbers, help).default_value(default)
+}
+
+// An option with a number, which has to be given.
+fn required_option<'a>(
+    alloc: Global,
+    name: &'a str,
+    letter: &'a str,
+    numbers: ValueParser<'a>,
+    help: &'a str,
+) -> Arg<'a>
+    ensures rule { rule_of result ≡ required (number_option name.entry.now numbers.entry) }
+    ensures local { result.global ≡ false }
+{
+    number_option(alloc, name, letter, numbers, help).required(true)
 }
 
 fn workers<'a>(alloc: Global) -> Arg<'a>
@@ -35,7 +62,7 @@ fn workers<'a>(alloc: Global) -> Arg<'a>
 {
     let numbers = value_parser!(u64).range(1..=64);
     let help = "Threads that share the work, 1 to 64";
-    number_option(alloc, "workers", "N", numbers, "4", help)
+    default_option(alloc, "workers", "N", numbers, "4", help)
 }
 
 fn chunk<'a>(alloc: Global) -> Arg<'a>
@@ -44,7 +71,7 @@ fn chunk<'a>(alloc: Global) -> Arg<'a>
 {
     let numbers = value_parser!(u64).range(1..=65_536);
     let help = "Items that a thread draws at a time, 1 to 65536";
-    number_option(alloc, "chunk", "C", numbers, "1024", help)
+    default_option(alloc, "chunk", "C", numbers, "1024", help)
 }
 
 fn steps<'a>(alloc: Global) -> Arg<'a>
@@ -53,7 +80,25 @@ fn steps<'a>(alloc: Global) -> Arg<'a>
 {
     let numbers = value_parser!(u64).range(0..=1_000_000_000);
     let help = "Steps after which the machine stops, 0 to 1000000000";
-    number_option(alloc, "steps", "M", numbers, "1000000", help)
+    default_option(alloc, "steps", "M", numbers, "1000000", help)
+}
+
+fn seed<'a>(alloc: Global) -> Arg<'a>
+    ensures rule { rule_of result ≡ seed_option }
+    ensures local { result.global ≡ false }
+{
+    let numbers = value_parser!(u64).range(0..=4_294_967_295);
+    let help = "What the numbers of the text are drawn from, 0 to 4294967295";
+    required_option(alloc, "seed", "S", numbers, help)
+}
+
+fn functions<'a>(alloc: Global) -> Arg<'a>
+    ensures rule { rule_of result ≡ functions_option }
+    ensures local { result.global ≡ false }
+{
+    let numbers = value_parser!(u64).range(1..=4096);
+    let help = "Functions of the text beside main, 1 to 4096";
+    required_option(alloc, "functions", "K", numbers, help)
 }
 
 fn build<'a>(alloc: Global) -> Result<Command<'a>, AllocError>
@@ -97,6 +142,19 @@ fn table<'a>(alloc: Global) -> Command<'a>
     )
 }
 
+fn drill<'a>(alloc: Global) -> Result<Command<'a>, AllocError>
+    ensures { IfOk result (λ c. shape_of c ≡ drill_shape) }
+{
+    Command::new(alloc, "drill")
+        .about(
+            "Compiles and runs a program made from a seed: prints sizes and how it ends, reads no input",
+        )
+        .arg(seed(alloc))?
+        .arg(functions(alloc))?
+        .arg(workers(alloc))?
+        .arg(chunk(alloc))
+}
+
 /// The command line as `clap` reads it.
 pub(crate) fn command<'a>(alloc: Global) -> Result<Command<'a>, AllocError>
     ensures { IfOk result (λ c. app_of c ≡ app) }
@@ -110,5 +168,6 @@ pub(crate) fn command<'a>(alloc: Global) -> Result<Command<'a>, AllocError>
         .subcommand(build(alloc)?)?
         .subcommand(run(alloc)?)?
         .subcommand(emu(alloc)?)?
-        .subcommand(table(alloc))
+        .subcommand(table(alloc))?
+        .subcommand(drill(alloc)?)
 }

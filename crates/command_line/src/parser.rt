@@ -84,6 +84,13 @@ fn request(name: &str, options: &ArgMatches<'_>) -> Request
             },
             plan: alone(),
         },
+        "drill" => Request {
+            command: Command::Drill {
+                seed: number(options, "seed"),
+                functions: number(options, "functions"),
+            },
+            plan: plan(options),
+        },
         _ => Request {
             command: Command::Table,
             plan: alone(),

@@ -49,6 +49,34 @@ fn words_ask_for_commands(rt: HostRuntime) -> Result<(), Fail> {
             Some((Command::Emu { steps: 7 }, 1, 1)),
         ),
         ("pareas table", Some((Command::Table, 1, 1))),
+        (
+            "pareas drill --seed 1 --functions 2",
+            Some((
+                Command::Drill {
+                    seed: 1,
+                    functions: 2,
+                },
+                4,
+                1024,
+            )),
+        ),
+        (
+            "pareas drill --functions 4096 --chunk 7 --seed 4294967295 --workers 64",
+            Some((
+                Command::Drill {
+                    seed: 4_294_967_295,
+                    functions: 4096,
+                },
+                64,
+                7,
+            )),
+        ),
+        ("pareas drill --seed 1 --functions 0", None),
+        ("pareas drill --seed 1 --functions 4097", None),
+        ("pareas drill --seed 4294967296 --functions 1", None),
+        ("pareas drill --functions 1", None),
+        ("pareas drill --seed 1", None),
+        ("pareas drill --seed 1 --functions 1 --steps 1", None),
         ("pareas table --workers 1", None),
         ("pareas table --steps 1", None),
         ("pareas", None),

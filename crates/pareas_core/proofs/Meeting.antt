@@ -1,13 +1,17 @@
 -- From what was read, answered and delivered to what the program's contract says.
-use Rattle.std.proofs.Common.{◌≡◌, ℕ, zero, suc, ◌+◌, ◌⊎◌, inl, inr, arith, List, [], ◌∷◌, ◌++◌, length, take, drop, Option, Some, None, Result, Ok, Err, refl, sym, ap, ◌∙◌, subst, codes}
+use Rattle.std.proofs.Common.{◌≡◌, ℕ, zero, suc, ◌+◌, ◌⊎◌, true, false, inl, inr, arith, List, [], ◌∷◌, ◌++◌, length, take, drop, Option, Some, None, Result, Ok, Err, refl, sym, ap, ◌∙◌, subst, codes}
 use Rattle.std.proofs.lemmas.List.{append-nil}
 use Rattle.std.specs.Io.KnownBytes.{Appends}
+use Rattle.drill_source.specs.Drill.{drill_text}
+use Rattle.front_end.specs.Front.{IsRefusedBy}
+use Rattle.front_end.specs.declared.refusal.Refusal.{Refusal}
+use Rattle.front_end.specs.declared.refusal.Refusal.TheVariants.{Diagnostic, Limit, NoMemory}
 use Rattle.source_meaning.specs.Ast.{Program}
 use Rattle.verdict.specs.Verdict.{Verdict, Diagnosed, Limited, Accepted, IsVerdict, image}
 use Rattle.pareas_core.specs.declared.status.Status.{Status}
 use Rattle.pareas_core.specs.declared.status.Status.TheVariants as statuses
 use Rattle.command_line.specs.declared.command.Command.{Command}
-use Rattle.command_line.specs.declared.command.Command.TheVariants.{Build, Run, Emu, Table}
+use Rattle.command_line.specs.declared.command.Command.TheVariants.{Build, Run, Emu, Table, Drill}
 use Rattle.elf_file.specs.declared.fault.ElfFault.{ElfFault}
 use Rattle.rv32_emul.specs.Machine.{Outcome, Exits, Faults, More, machine}
 use Rattle.simulation.specs.Behaves.{Behaves, IsFaulty, Overruns}
@@ -21,73 +25,89 @@ use Rattle.llp_tables.specs.Tables.{IsTableFault}
 use Rattle.llp_tables.specs.Pairs.{CountsPairs}
 use Rattle.llp_tables.specs.FaultLines.{line_of_fault}
 use Rattle.llp_tables.specs.declared.fault.TableFault.{TableFault}
-use Rattle.pareas_core.specs.Output.{Due, noted, done, due_of_verdict, due_of_machine, IsDueOfGrammar, conflicting, sized, sizes, IsDue, built, ran, emulated, bad_grammar, tabled}
+use Rattle.pareas_core.specs.Output.{Due, noted, done, due_of_verdict, due_of_machine, due_of_drill, drill_lines, drill_steps, IsDueOfGrammar, conflicting, sized, sizes, IsDue, built, ran, emulated, bad_grammar, tabled, drilled}
 use Rattle.pareas_core.specs.Reading.{ReadsUpTo, WritesPrefix}
-use Rattle.pareas_core.specs.Headline.{CompilesTo, RunsAs, HasRun, most_bytes, read_by, End, HasFailed, HasWorked, GotPrefix, IsWritten, IsAnswer, MeetsWords, IsResponse, IsDelivered, whole, broken_off}
+use Rattle.pareas_core.specs.Headline.{CompilesTo, RunsAs, Runs, what_was_read, what_was_made, HasRun, HasRead, IsToldOf, reads, most_bytes, read_by, End, HasFailed, HasWorked, GotPrefix, IsWritten, IsAnswer, MeetsWords, IsResponse, IsDelivered, whole, broken_off}
 
 -- ---- what is due
 
-abbrev OneVerdict : List ℕ → Type 0
-OneVerdict bytes = (v w : Verdict) → IsVerdict bytes v → IsVerdict bytes w → v ≡ w
+abbrev pub OneVerdict : List ℕ → Type 0
+OneVerdict text = (v w : Verdict) → IsVerdict text v → IsVerdict text w → v ≡ w
 
-build_due : (bytes : List ℕ) (e : Due) (v : Verdict) → IsDue Build bytes e → ((w : Verdict) → IsVerdict bytes w → w ≡ v) → e ≡ due_of_verdict (λ p. done (image p)) bytes v
-build_due bytes _ v (built {v = w} is) one = ap (due_of_verdict (λ p. done (image p)) bytes) (one w is)
+-- what is due for a command is what the verdict on a text says
+pub record IsByVerdict (c : Command) (bytes text : List ℕ) (f : Program → Due) : Type 0 where
+  pub due : (v : Verdict) → IsVerdict text v → IsDue c bytes (due_of_verdict f text v)
+  pub only : (e : Due) → IsDue c bytes e → (v : Verdict) × IsVerdict text v × (e ≡ due_of_verdict f text v)
 
-run_due : (steps : ℕ) (bytes : List ℕ) (e : Due) (v : Verdict) → IsDue (Run steps) bytes e → ((w : Verdict) → IsVerdict bytes w → w ≡ v)
-    → e ≡ due_of_verdict (λ p. due_of_machine (machine (image p) steps)) bytes v
-run_due steps bytes _ v (ran {v = w} is) one = ap (due_of_verdict (λ p. due_of_machine (machine (image p) steps)) bytes) (one w is)
+-- an image that is written, and one that runs behind some lines
+abbrev pub written : Program → Due
+written p = done (image p)
 
-emulated_due : (steps : ℕ) (bytes : List ℕ) (e : Due) → IsDue (Emu steps) bytes e → e ≡ due_of_machine (machine bytes steps)
-emulated_due steps bytes _ emulated = refl
+abbrev pub running : (List ℕ → List ℕ) → ℕ → Program → Due
+running before steps p = due_of_machine (before (image p)) (machine (image p) steps)
 
--- a source with a diagnostic, or with a limit that it passes: its line, whatever is asked of its program
-abbrev pub is_line : (Program → Due) → List ℕ → Verdict → Due → Type 0
-is_line f text (Accepted p) d = ⊥
-is_line f text v d = d ≡ due_of_verdict f text v
+abbrev pub no_lines : List ℕ → List ℕ
+no_lines file = []
 
--- neither ran
-line_status : (f : Program → Due) (text : List ℕ) (v : Verdict) (d : Due) → is_line f text v d → (d.status ≡ statuses.Done) ⊎ HasRun d.status → ⊥
-line_status f text (Accepted p) d is h = is
-line_status f text (Diagnosed code place) d is h = not_done (ap (λ (d : Due). d.status) is) h
-  where
-    not_done : d.status ≡ statuses.Refused → (d.status ≡ statuses.Done) ⊎ HasRun d.status → ⊥
-    not_done e (inl a) = cc
-    not_done e (inr (inl a)) = cc
-    not_done e (inr (inr (inl a))) = cc
-    not_done e (inr (inr (inr a))) = cc
-line_status f text (Limited code place bytes) d is h = not_done (ap (λ (d : Due). d.status) is) h
-  where
-    not_done : d.status ≡ statuses.Limit → (d.status ≡ statuses.Done) ⊎ HasRun d.status → ⊥
-    not_done e (inl a) = cc
-    not_done e (inr (inl a)) = cc
-    not_done e (inr (inr (inl a))) = cc
-    not_done e (inr (inr (inr a))) = cc
+build_only : (bytes : List ℕ) (e : Due) → IsDue Build bytes e → (v : Verdict) × IsVerdict bytes v × (e ≡ due_of_verdict written bytes v)
+build_only bytes _ (built {v = v} is) = (v, is, refl)
 
-line_is : (f : Program → Due) (text : List ℕ) (v : Verdict) (d : Due) → is_line f text v d → d ≡ due_of_verdict f text v
-line_is f text (Accepted p) d is = absurd is
-line_is f text (Diagnosed code place) d is = is
-line_is f text (Limited code place bytes) d is = is
+run_only : (steps : ℕ) (bytes : List ℕ) (e : Due) → IsDue (Run steps) bytes e → (v : Verdict) × IsVerdict bytes v × (e ≡ due_of_verdict (running no_lines steps) bytes v)
+run_only steps bytes _ (ran {v = v} is) = (v, is, refl)
 
-pub refused_build : (bytes : List ℕ) (v : Verdict) (d : Due) → IsVerdict bytes v → OneVerdict bytes → is_line (λ p. done (image p)) bytes v d → IsResponse Build bytes d
-refused_build bytes v d is one told =
-    let same = line_is (λ p. done (image p)) bytes v d told in
-    record {
-      due = subst (IsDue Build bytes) (sym same) (built is);
-      only = λ e h. build_due bytes e v h (λ w i. one w v i is) ∙ sym same;
-      built = λ build is_done. absurd (line_status (λ p. done (image p)) bytes v d told (inl is_done));
-      ran = λ steps run h. absurd (line_status (λ p. done (image p)) bytes v d told (inr h));
-    }
+drill_only : (seed functions : ℕ) (bytes : List ℕ) (e : Due) → IsDue (Drill seed functions) bytes e
+    → (v : Verdict) × IsVerdict (drill_text seed functions) v × (e ≡ due_of_verdict (running (drill_lines (drill_text seed functions)) drill_steps) (drill_text seed functions) v)
+drill_only seed functions bytes _ (drilled {v = v} is) = (v, is, refl)
 
-pub refused_run : (steps : ℕ) (bytes : List ℕ) (v : Verdict) (d : Due) → IsVerdict bytes v → OneVerdict bytes → is_line (λ p. due_of_machine (machine (image p) steps)) bytes v d → IsResponse (Run steps) bytes d
-refused_run steps bytes v d is one told =
-    let f : Program → Due = λ p. due_of_machine (machine (image p) steps) in
-    let same = line_is f bytes v d told in
-    record {
-      due = subst (IsDue (Run steps) bytes) (sym same) (ran is);
-      only = λ e h. run_due steps bytes e v h (λ w i. one w v i is) ∙ sym same;
-      built = λ build is_done. absurd (line_status f bytes v d told (inl is_done));
-      ran = λ n run h. absurd (line_status f bytes v d told (inr h));
-    }
+pub by_build : (bytes : List ℕ) → IsByVerdict Build bytes bytes written
+by_build bytes = record { due = λ v is. built is; only = build_only bytes }
+
+pub by_run : (steps : ℕ) (bytes : List ℕ) → IsByVerdict (Run steps) bytes bytes (running no_lines steps)
+by_run steps bytes = record { due = λ v is. ran is; only = run_only steps bytes }
+
+pub by_drill : (seed functions : ℕ) (bytes : List ℕ)
+    → IsByVerdict (Drill seed functions) bytes (drill_text seed functions) (running (drill_lines (drill_text seed functions)) drill_steps)
+by_drill seed functions bytes = record { due = λ v is. drilled is; only = drill_only seed functions bytes }
+
+module _ (c : Command) (bytes text : List ℕ) (f : Program → Due) (by : IsByVerdict c bytes text f) (one : OneVerdict text) where
+  -- nothing else is due
+  no_other : (v : Verdict) (d : Due) → IsVerdict text v → d ≡ due_of_verdict f text v → (e : Due) → IsDue c bytes e → e ≡ d
+  no_other v d is same e h = let o = by.only e h in o.2 ∙ ap (due_of_verdict f text) (one o.0 v o.1 is) ∙ sym same
+
+  not_refused : (d : Due) → d.status ≡ statuses.Refused → (d.status ≡ statuses.Done) ⊎ HasRun d.status → ⊥
+  not_refused d e (inl a) = cc
+  not_refused d e (inr (inl a)) = cc
+  not_refused d e (inr (inr (inl a))) = cc
+  not_refused d e (inr (inr (inr a))) = cc
+
+  not_limited : (d : Due) → d.status ≡ statuses.Limit → (d.status ≡ statuses.Done) ⊎ HasRun d.status → ⊥
+  not_limited d e (inl a) = cc
+  not_limited d e (inr (inl a)) = cc
+  not_limited d e (inr (inr (inl a))) = cc
+  not_limited d e (inr (inr (inr a))) = cc
+
+  told : (v : Verdict) (d : Due) → IsVerdict text v → d ≡ due_of_verdict f text v → ((d.status ≡ statuses.Done) ⊎ HasRun d.status → ⊥) → IsResponse c bytes d
+  told v d is same neither = record {
+    due = subst (IsDue c bytes) (sym same) (by.due v is);
+    only = no_other v d is same;
+    built = λ build is_done. absurd (neither (inl is_done));
+    ran = λ source steps runs h. absurd (neither (inr h));
+  }
+
+  -- a source with a diagnostic, or with a limit that it passes
+  pub refused : (r : Refusal) (d : Due) → IsRefusedBy text r → IsToldOf text r d → IsResponse c bytes d
+  refused (Diagnostic code at) d is line = told (Diagnosed code at) d is line (not_refused d (ap (λ (d : Due). d.status) line))
+  refused (Limit code at size) d is line = told (Limited code at size) d is line (not_limited d (ap (λ (d : Due). d.status) line))
+  refused NoMemory d is line = absurd line
+
+no_build_run : (bytes source : List ℕ) (steps : ℕ) → Runs Build bytes source steps → ⊥
+no_build_run bytes source steps r = elim r [ ]
+
+no_emu_run : (most : ℕ) (bytes source : List ℕ) (steps : ℕ) → Runs (Emu most) bytes source steps → ⊥
+no_emu_run most bytes source steps r = elim r [ ]
+
+no_table_run : (bytes source : List ℕ) (steps : ℕ) → Runs Table bytes source steps → ⊥
+no_table_run bytes source steps r = elim r [ ]
 
 -- an image that was built
 pub compiled : (bytes out notes : List ℕ) → CompilesTo bytes out → OneVerdict bytes → notes ≡ []
@@ -96,53 +116,81 @@ compiled bytes out notes k one none =
     let same : done (image k.program) ≡ record { status = statuses.Done; out = out; notes = notes } = λ i. record { status = statuses.Done; out = sym k.is_image i; notes = sym none i } in
     record {
       due = subst (IsDue Build bytes) same (built k.accepted);
-      only = λ e h. build_due bytes e (Accepted k.program) h (λ v is. one v (Accepted k.program) is k.accepted) ∙ same;
+      only = no_other Build bytes bytes written (by_build bytes) one (Accepted k.program) _ k.accepted (sym same);
       built = λ build is_done. k;
-      ran = λ steps run h. let e : Build ≡ Run steps = run in cc;
+      ran = λ source steps runs h. absurd (no_build_run bytes source steps runs);
     }
 
 -- where the machine's status is a fault, the machine is faulty
-faulty : (file : List ℕ) (steps : ℕ) → (due_of_machine (machine file steps)).status ≡ statuses.Machine → IsFaulty file steps
-faulty file steps h = go (machine file steps) refl h
+faulty : (lines file : List ℕ) (steps : ℕ) → (due_of_machine lines (machine file steps)).status ≡ statuses.Machine → IsFaulty file steps
+faulty lines file steps h = go (machine file steps) refl h
   where
-    go : (m : Result Outcome ElfFault) → machine file steps ≡ m → (due_of_machine m).status ≡ statuses.Machine → IsFaulty file steps
+    go : (m : Result Outcome ElfFault) → machine file steps ≡ m → (due_of_machine lines m).status ≡ statuses.Machine → IsFaulty file steps
     go (Ok (Exits value)) e h = cc
     go (Ok (Faults kind at address)) e h = (kind, at, address, e)
     go (Ok More) e h = cc
     go (Err fault) e h = cc
 
-abbrev steps_in : Command → ℕ
-steps_in Build = 0
-steps_in (Run steps) = steps
-steps_in (Emu steps) = steps
-steps_in Table = 0
+-- a command runs the program of this text alone, and for so many steps
+abbrev pub RunsOnly : Command → List ℕ → List ℕ → ℕ → Type 0
+RunsOnly c bytes text steps = (source : List ℕ) (n : ℕ) → Runs c bytes source n → (source ≡ text) × (n ≡ steps)
+
+pub run_runs : (steps : ℕ) (bytes : List ℕ) → RunsOnly (Run steps) bytes bytes steps
+run_runs steps bytes _ _ what_was_read = (refl, refl)
+
+pub drill_runs : (seed functions : ℕ) (bytes : List ℕ) → RunsOnly (Drill seed functions) bytes (drill_text seed functions) drill_steps
+drill_runs seed functions bytes _ _ what_was_made = (refl, refl)
 
 -- the run of an image
-pub run_through : (steps : ℕ) (bytes file : List ℕ) (d : Due) → CompilesTo bytes file → OneVerdict bytes → d ≡ due_of_machine (machine file steps)
+module _ (c : Command) (bytes text : List ℕ) (before : List ℕ → List ℕ) (steps : ℕ) (by : IsByVerdict c bytes text (running before steps))
+    (runs_only : RunsOnly c bytes text steps) (no_build : c ≡ Build → ⊥) (one : OneVerdict text) where
+  pub run_through : (file : List ℕ) (d : Due) → CompilesTo text file → d ≡ due_of_machine (before file) (machine file steps) → IsResponse c bytes d
+  run_through file d k is =
+      let same : running before steps k.program ≡ d = ap (λ f. due_of_machine (before f) (machine f steps)) (sym k.is_image) ∙ sym is in
+      let behaves : Behaves k.program (image k.program) = subst (Behaves k.program) k.is_image k.behaves in
+      record {
+        due = subst (IsDue c bytes) same (by.due (Accepted k.program) k.accepted);
+        only = no_other c bytes text (running before steps) by one (Accepted k.program) d k.accepted (sym same);
+        built = λ build is_done. absurd (no_build build);
+        ran = λ source n runs h.
+            let it = runs_only source n runs in
+            subst (λ s. RunsAs s n d.status) (sym it.0) (record {
+              program = k.program;
+              accepted = k.accepted;
+              behaves = behaves;
+              overran = λ fault. subst (Overruns k.program (image k.program)) (sym it.1)
+                  (behaves.overruns_only steps (faulty (before (image k.program)) (image k.program) steps (ap (λ (d : Due). d.status) same ∙ fault))).0;
+            });
+      }
+
+run_is_no_build : (steps : ℕ) → Run steps ≡ Build → ⊥
+run_is_no_build steps e = cc
+
+drill_is_no_build : (seed functions : ℕ) → Drill seed functions ≡ Build → ⊥
+drill_is_no_build seed functions e = cc
+
+pub ran_through : (steps : ℕ) (bytes file : List ℕ) (d : Due) → CompilesTo bytes file → OneVerdict bytes → d ≡ due_of_machine [] (machine file steps)
     → IsResponse (Run steps) bytes d
-run_through steps bytes file d k one is =
-    let same : due_of_machine (machine (image k.program) steps) ≡ d = ap (λ f. due_of_machine (machine f steps)) (sym k.is_image) ∙ sym is in
-    let behaves : Behaves k.program (image k.program) = subst (Behaves k.program) k.is_image k.behaves in
-    record {
-      due = subst (IsDue (Run steps) bytes) same (ran k.accepted);
-      only = λ e h. run_due steps bytes e (Accepted k.program) h (λ v is. one v (Accepted k.program) is k.accepted) ∙ same;
-      built = λ build is_done. let e : Run steps ≡ Build = build in cc;
-      ran = λ n run h. record {
-        program = k.program;
-        accepted = k.accepted;
-        behaves = behaves;
-        overran = λ fault. subst (Overruns k.program (image k.program)) (ap steps_in run)
-            (behaves.overruns_only steps (faulty (image k.program) steps (ap (λ (d : Due). d.status) same ∙ fault))).0;
-      };
-    }
+ran_through steps bytes file d k one is =
+    run_through (Run steps) bytes bytes no_lines steps (by_run steps bytes) (run_runs steps bytes) (run_is_no_build steps) one file d k is
+
+pub drilled_through : (seed functions : ℕ) (bytes file : List ℕ) (d : Due) → CompilesTo (drill_text seed functions) file → OneVerdict (drill_text seed functions)
+    → d ≡ due_of_drill (drill_text seed functions) file → IsResponse (Drill seed functions) bytes d
+drilled_through seed functions bytes file d k one is =
+    let text = drill_text seed functions in
+    run_through (Drill seed functions) bytes text (drill_lines text) drill_steps (by_drill seed functions bytes) (drill_runs seed functions bytes)
+    (drill_is_no_build seed functions) one file d k is
 
 -- the run of a file
-pub emulates : (steps : ℕ) (bytes : List ℕ) (d : Due) → d ≡ due_of_machine (machine bytes steps) → IsResponse (Emu steps) bytes d
+emulated_due : (steps : ℕ) (bytes : List ℕ) (e : Due) → IsDue (Emu steps) bytes e → e ≡ due_of_machine [] (machine bytes steps)
+emulated_due steps bytes _ emulated = refl
+
+pub emulates : (steps : ℕ) (bytes : List ℕ) (d : Due) → d ≡ due_of_machine [] (machine bytes steps) → IsResponse (Emu steps) bytes d
 emulates steps bytes d is = record {
   due = subst (IsDue (Emu steps) bytes) (sym is) emulated;
   only = λ e h. emulated_due steps bytes e h ∙ sym is;
   built = λ build is_done. let e : Emu steps ≡ Build = build in cc;
-  ran = λ n run h. let e : Emu steps ≡ Run n = run in cc;
+  ran = λ source n runs h. absurd (no_emu_run steps bytes source n runs);
 }
 
 -- ---- a grammar file
@@ -188,7 +236,7 @@ of_table bytes d due only = record {
   due = due;
   only = only;
   built = λ build is_done. let e : Table ≡ Build = build in cc;
-  ran = λ n run h. let e : Table ≡ Run n = run in cc;
+  ran = λ source n runs h. absurd (no_table_run bytes source n runs);
 }
 
 pub tables_or_conflict : (bytes : List ℕ) (g : Grammar) (d : Due) → Spells bytes (Ok g) → OneSpelling bytes → OneAnswer g → IsDueOfGrammar g d → IsResponse Table bytes d
@@ -228,12 +276,15 @@ IsOutcome statuses.Conflict = Unit {0}
 IsOutcome statuses.BadGrammar = Unit {0}
 IsOutcome s = ⊥
 
-machine_outcome : (m : Result Outcome ElfFault) → IsOutcome (due_of_machine m).status
+machine_outcome : (lines : List ℕ) (m : Result Outcome ElfFault) → IsOutcome (due_of_machine lines m).status
 unfolding IsOutcome
-machine_outcome (Ok (Exits value)) = tt
-machine_outcome (Ok (Faults kind at address)) = tt
-machine_outcome (Ok More) = tt
-machine_outcome (Err fault) = tt
+machine_outcome lines (Ok (Exits value)) = tt
+machine_outcome lines (Ok (Faults kind at address)) = tt
+machine_outcome lines (Ok More) = tt
+machine_outcome lines (Err fault) = tt
+
+running_outcome : (before : List ℕ → List ℕ) (steps : ℕ) (p : Program) → IsOutcome (running before steps p).status
+running_outcome before steps p = machine_outcome (before (image p)) (machine (image p) steps)
 
 verdict_outcome : (f : Program → Due) (bytes : List ℕ) (v : Verdict) → ((p : Program) → IsOutcome (f p).status) → IsOutcome (due_of_verdict f bytes v).status
 unfolding IsOutcome
@@ -248,9 +299,12 @@ grammar_outcome g _ (sized n ll1 llp count) = tt
 
 outcome : (c : Command) (bytes : List ℕ) (d : Due) → IsDue c bytes d → IsOutcome d.status
 unfolding IsOutcome
-outcome _ bytes _ (built {v = v} is) = verdict_outcome (λ p. done (image p)) bytes v (λ p. tt)
-outcome _ bytes _ (ran {steps = steps} {v = v} is) = verdict_outcome (λ p. due_of_machine (machine (image p) steps)) bytes v (λ p. machine_outcome (machine (image p) steps))
-outcome _ bytes _ (emulated {steps = steps}) = machine_outcome (machine bytes steps)
+outcome _ bytes _ (built {v = v} is) = verdict_outcome written bytes v (λ p. tt)
+outcome _ bytes _ (ran {steps = steps} {v = v} is) = verdict_outcome (running no_lines steps) bytes v (running_outcome no_lines steps)
+outcome _ bytes _ (drilled {seed = seed} {functions = functions} {v = v} is) =
+    let text = drill_text seed functions in
+    verdict_outcome (running (drill_lines text) drill_steps) text v (running_outcome (drill_lines text) drill_steps)
+outcome _ bytes _ (emulated {steps = steps}) = machine_outcome [] (machine bytes steps)
 outcome _ bytes _ (bad_grammar f is) = tt
 outcome _ bytes d (tabled g is due) = grammar_outcome g d due
 
@@ -266,6 +320,13 @@ drop_read zero xs = refl
 drop_read (suc n) [] = refl
 drop_read (suc n) (x ∷ xs) = drop_read n xs
 
+-- what a command reads, by whether it reads
+pub has_read : (c : Command) (before after : Option (List ℕ)) (bytes : List ℕ) → reads c ≡ true → ReadsUpTo (most_bytes c + 1) before after bytes → HasRead c before after bytes
+has_read c before after bytes does up = λ all is. let got = up all is in rw does (got.0, got.1 ∙ ap Some (sym (drop_read (most_bytes c + 1) all)))
+
+pub has_read_none : (c : Command) (known : Option (List ℕ)) → reads c ≡ false → HasRead c known known []
+has_read_none c known none = λ all is. rw none (refl, is)
+
 no_words : {A : Type 0} (words : Option Command) (c : Command) → words ≡ Some c → words ≡ None → A
 no_words words c e n = let both : Some c ≡ None = sym e ∙ n in cc
 
@@ -273,7 +334,7 @@ same_command : (words : Option Command) (c d : Command) → words ≡ Some c →
 same_command words c d e f = let both : Some c ≡ Some d = sym e ∙ f in cc
 
 module _ (words : Option Command) (c : Command) (is_command : words ≡ Some c) (input : End) (bytes : List ℕ)
-    (read : ReadsUpTo (most_bytes c + 1) input.before input.after bytes) (worked : input.faults_after ≡ input.faults_before)
+    (read : HasRead c input.before input.after bytes) (worked : input.faults_after ≡ input.faults_before) (undisturbed : reads c ≡ false → input.after ≡ input.before)
     (d : Due) (response : IsResponse c bytes d) (out notes : End) where
   read_for : (e : Command) (all : List ℕ) → words ≡ Some e → input.before ≡ Some all → (c ≡ e) × (bytes ≡ read_by e all)
   read_for e all is_e is_all =
@@ -285,15 +346,18 @@ module _ (words : Option Command) (c : Command) (is_command : words ≡ Some c) 
       let r = read_for e all is_e is_all in
       sym (response.only f (subst (λ k. IsDue k bytes f) (sym r.0) (subst (λ l. IsDue e l f) (sym r.1) h)))
 
+  not_disturbed : (e : Command) → words ≡ Some e → reads e ≡ false → (input.after ≡ input.before) × (input.faults_after ≡ input.faults_before)
+  not_disturbed e is_e none = (undisturbed (subst (λ k. reads k ≡ false) (sym (same_command words c e is_command is_e)) none), worked)
+
   answered : IsWritten d.status out notes d → (e : Command) (all : List ℕ) → words ≡ Some e → input.before ≡ Some all → IsAnswer e all d.status input out notes
   answered w e all is_e is_all =
       let r = read_for e all is_e is_all in
       record {
-        read = (read all is_all).1 ∙ ap Some (sym (ap (λ l. drop (length l) all) (sym r.1 ∙ (read all is_all).0) ∙ drop_read (most_bytes c + 1) all));
+        read = subst (λ k. input.after ≡ Some (drop (length (read_by k all)) all)) r.0 (read all is_all).1;
         due = (d, subst (λ k. IsDue k (read_by e all) d) r.0 (subst (λ l. IsDue c l d) r.1 response.due), w);
         only = λ f h. subst (IsWritten d.status out notes) (only_due e all is_e is_all f h) w;
         built = λ build is_done. (d.out, subst (λ l. CompilesTo l d.out) r.1 (response.built (r.0 ∙ build) is_done), w.is_out);
-        ran = λ steps run h. subst (λ l. RunsAs l steps d.status) r.1 (response.ran steps (r.0 ∙ run) h);
+        ran = λ source steps runs h. response.ran source steps (subst (λ k. Runs k bytes source steps) (sym r.0) (subst (λ l. Runs e l source steps) (sym r.1) runs)) h;
       }
 
   met_whole : IsWritten d.status out notes d → out.faults_after ≡ out.faults_before → notes.faults_after ≡ notes.faults_before → MeetsWords words input out notes d.status
@@ -304,6 +368,7 @@ module _ (words : Option Command) (c : Command) (is_command : words ≡ Some c) 
         usage = no_words words c is_command;
         usage_only = λ e. absurd (no_outcome d.status (inl e) o);
         unread = no_words words c is_command;
+        undisturbed = not_disturbed;
         no_output = no_words words c is_command;
         read_fault = λ e. absurd (no_outcome d.status (inr (inl e)) o);
         read_fault_only = λ h. absurd (h worked);
@@ -323,6 +388,7 @@ module _ (words : Option Command) (c : Command) (is_command : words ≡ Some c) 
     usage = no_words words c is_command;
     usage_only = λ e. cc;
     unread = no_words words c is_command;
+    undisturbed = not_disturbed;
     no_output = no_words words c is_command;
     read_fault = λ e. cc;
     read_fault_only = λ h. absurd (h worked);
@@ -338,15 +404,16 @@ module _ (words : Option Command) (c : Command) (is_command : words ≡ Some c) 
   met _ (broken_off f po pn) = met_broken f po pn
 
 -- a read that failed
-pub failed_read : (words : Option Command) (c : Command) → words ≡ Some c → (input out notes : End) → HasFailed input → out.after ≡ out.before → out.faults_after ≡ out.faults_before
+pub failed_read : (words : Option Command) (c : Command) → words ≡ Some c → reads c ≡ true → (input out notes : End) → HasFailed input → out.after ≡ out.before → out.faults_after ≡ out.faults_before
     → notes.after ≡ notes.before → notes.faults_after ≡ notes.faults_before → MeetsWords words input out notes statuses.ReadFault
-failed_read words c is input out notes failed out_is out_faults notes_are notes_faults = record {
+failed_read words c is does input out notes failed out_is out_faults notes_are notes_faults = record {
   answer = λ e all is_e is_all hi ho hn memory. absurd (not_both hi);
   usage = no_words words c is;
   usage_only = λ e. cc;
   unread = no_words words c is;
+  undisturbed = λ e is_e none. absurd (reads_both (same_command words c e is is_e) none);
   no_output = no_words words c is;
-  read_fault = λ e. (failed, (c, is));
+  read_fault = λ e. (failed, (c, is, does));
   read_fault_only = λ h. inl refl;
   write_fault = λ e. cc;
   write_fault_only = λ h. absurd (h (out_faults, notes_faults));
@@ -354,6 +421,9 @@ failed_read words c is input out notes failed out_is out_faults notes_are notes_
   nothing = λ h. (unchanged out out_is, unchanged notes notes_are);
 }
   where
+    reads_both : {e : Command} → c ≡ e → reads e ≡ false → ⊥
+    reads_both same none = let both : true ≡ false = sym does ∙ ap reads same ∙ none in cc
+
     not_both : HasWorked input → ⊥
     not_both hi = let f = failed in let a = hi.0 in let b = hi.1 in omega arith
 

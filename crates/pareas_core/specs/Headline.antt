@@ -1,5 +1,5 @@
 -- What the compiler and the program answer.
-use Rattle.std.specs.Prelude.{◌≡◌, ◌≢◌, ℕ, ◌+◌, ◌⊎◌, List, [], ◌++◌, length, take, drop, Option, Some, None}
+use Rattle.std.specs.Prelude.{◌≡◌, ◌≢◌, ℕ, ◌+◌, ◌⊎◌, Bool, true, false, List, [], ◌++◌, length, take, drop, Option, Some, None, codes, if◌then◌else◌}
 use Rattle.verdict.specs.Verdict.{Accepted, IsVerdict, image, most_source}
 use Rattle.simulation.specs.Behaves.{Behaves, Overruns}
 use Rattle.source_meaning.specs.Ast.{Program}
@@ -7,9 +7,12 @@ use Rattle.pareas_core.specs.declared.status.Status.{Status}
 use Rattle.pareas_core.specs.declared.status.Status.TheVariants as statuses
 use Rattle.pareas_core.specs.Causes.{Rose, Stayed}
 use Rattle.command_line.specs.declared.command.Command.{Command}
-use Rattle.command_line.specs.declared.command.Command.TheVariants.{Build, Run, Emu, Table}
+use Rattle.command_line.specs.declared.command.Command.TheVariants.{Build, Run, Emu, Table, Drill}
 use Rattle.elf_file.specs.Load.{most as most_image}
-use Rattle.pareas_core.specs.Output.{Due, IsDue}
+use Rattle.drill_source.specs.Drill.{drill_text}
+use Rattle.pareas_core.specs.Output.{Due, IsDue, at_place, drill_steps, noted}
+use Rattle.front_end.specs.declared.refusal.Refusal.{Refusal}
+use Rattle.front_end.specs.declared.refusal.Refusal.TheVariants.{Diagnostic, Limit, NoMemory}
 
 -- ---- the compiler
 
@@ -34,16 +37,27 @@ pub record RunsAs (source : List ℕ) (steps : ℕ) (status : Status) : Type 0 w
 abbrev pub most_grammar : ℕ
 most_grammar = 65536
 
+-- the program that a command runs, by its source, and for how many steps: the source is what was read, or a drill's text
+pub data Runs : Command → List ℕ → List ℕ → ℕ → Type 0 where
+  what_was_read : {steps : ℕ} {bytes : List ℕ} → Runs (Run steps) bytes bytes steps
+  what_was_made : {seed functions : ℕ} {bytes : List ℕ} → Runs (Drill seed functions) bytes (drill_text seed functions) drill_steps
+
+-- whether a command reads the input
+abbrev pub reads : Command → Bool
+reads (Drill seed functions) = false
+reads _ = true
+
 -- the most bytes that a command takes
 abbrev pub most_bytes : Command → ℕ
 most_bytes Build = most_source
 most_bytes (Run steps) = most_source
 most_bytes (Emu steps) = most_image
 most_bytes Table = most_grammar
+most_bytes (Drill seed functions) = 0
 
 -- the bytes that a command reads: those of the input, up to one past its limit
 abbrev pub read_by : Command → List ℕ → List ℕ
-read_by c bytes = take (most_bytes c + 1) bytes
+read_by c bytes = if reads c then take (most_bytes c + 1) bytes else []
 
 -- the machine ran
 abbrev pub HasRun : Status → Type 0
@@ -86,8 +100,8 @@ pub record IsAnswer (c : Command) (bytes : List ℕ) (status : Status) (input ou
   pub only : (d : Due) → IsDue c (read_by c bytes) d → IsWritten status out notes d
   -- what was built is the image of the program that the source is, and behaves as that program on RV32IM
   pub built : c ≡ Build → status ≡ statuses.Done → (file : List ℕ) × CompilesTo (read_by c bytes) file × Got out file
-  -- what was run is the image of the program that the source is
-  pub ran : (steps : ℕ) → c ≡ Run steps → HasRun status → RunsAs (read_by c bytes) steps status
+  -- what was run is the image of the program that the source is, or the text of a drill
+  pub ran : (source : List ℕ) (steps : ℕ) → Runs c (read_by c bytes) source steps → HasRun status → RunsAs source steps status
 
 -- The answer to words that name a command, and the status of words that name none. Each status has its cause.
 pub record MeetsWords (words : Option Command) (input out notes : End) (status : Status) : Type 0 where
@@ -98,9 +112,11 @@ pub record MeetsWords (words : Option Command) (input out notes : End) (status :
   pub usage : words ≡ None → (status ≡ statuses.Usage) ⊎ (status ≡ statuses.NoMemory) ⊎ (status ≡ statuses.WriteFault)
   pub usage_only : status ≡ statuses.Usage → words ≡ None
   pub unread : words ≡ None → (input.after ≡ input.before) × (input.faults_after ≡ input.faults_before)
+  -- nor is anything read for a drill
+  pub undisturbed : (c : Command) → words ≡ Some c → reads c ≡ false → (input.after ≡ input.before) × (input.faults_after ≡ input.faults_before)
   pub no_output : words ≡ None → Got out []
   -- a read that failed
-  pub read_fault : status ≡ statuses.ReadFault → HasFailed input × ((c : Command) × (words ≡ Some c))
+  pub read_fault : status ≡ statuses.ReadFault → HasFailed input × ((c : Command) × (words ≡ Some c) × (reads c ≡ true))
   pub read_fault_only : input.faults_after ≢ input.faults_before → (status ≡ statuses.ReadFault) ⊎ (status ≡ statuses.NoMemory)
   -- a write that failed
   pub write_fault : status ≡ statuses.WriteFault → HasFailed out ⊎ HasFailed notes
@@ -118,7 +134,17 @@ pub record IsResponse (c : Command) (bytes : List ℕ) (d : Due) : Type 0 where
   pub due : IsDue c bytes d
   pub only : (e : Due) → IsDue c bytes e → e ≡ d
   pub built : c ≡ Build → d.status ≡ statuses.Done → CompilesTo bytes d.out
-  pub ran : (steps : ℕ) → c ≡ Run steps → HasRun d.status → RunsAs bytes steps d.status
+  pub ran : (source : List ℕ) (steps : ℕ) → Runs c bytes source steps → HasRun d.status → RunsAs source steps d.status
+
+-- an input that tells its bytes has lost those that the command reads
+abbrev pub HasRead : Command → Option (List ℕ) → Option (List ℕ) → List ℕ → Type 0
+HasRead c before after bytes = (all : List ℕ) → before ≡ Some all → (bytes ≡ read_by c all) × (after ≡ Some (drop (length (read_by c all)) all))
+
+-- the line of a source that has no image
+abbrev pub IsToldOf : List ℕ → Refusal → Due → Type 0
+IsToldOf text (Diagnostic code at) d = d ≡ noted statuses.Refused (codes "error " ++ at_place text code at)
+IsToldOf text (Limit code at bytes) d = d ≡ noted statuses.Limit (codes "limit " ++ at_place text code at)
+IsToldOf text NoMemory d = ⊥
 
 -- a response was written whole, or a write failed behind a prefix of it
 pub data IsDelivered (d : Due) (out notes : End) : Status → Type 0 where

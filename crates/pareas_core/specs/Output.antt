@@ -2,7 +2,8 @@
 use Rattle.std.specs.Prelude.{ℕ, ◌+◌, ◌-◌, false, List, [], ◌∷◌, ◌++◌, length, take, replicate, codes, decimal, fold, count_by, ◌==◌, if◌then◌else◌, Result, Ok, Err}
 use Rattle.std.specs.Fmt.{signed_decimal, digits}
 use Rattle.command_line.specs.declared.command.Command.{Command}
-use Rattle.command_line.specs.declared.command.Command.TheVariants.{Build, Run, Emu, Table}
+use Rattle.command_line.specs.declared.command.Command.TheVariants.{Build, Run, Emu, Table, Drill}
+use Rattle.drill_source.specs.Drill.{drill_text}
 use Rattle.rv_isa.specs.Word.{signed}
 use Rattle.rv_isa.specs.declared.hart.FaultKind.{FaultKind}
 use Rattle.rv_isa.specs.declared.hart.FaultKind.TheVariants.{Fetch, Load, Store, Misaligned, Unknown, Call}
@@ -22,6 +23,7 @@ use Rattle.llp_tables.specs.Pairs.{CountsPairs}
 use Rattle.llp_tables.specs.FaultLines.{line_of_fault}
 use Rattle.llp_tables.specs.declared.fault.TableFault.{TableFault}
 use Rattle.source_meaning.specs.Ast.{Program}
+use Rattle.source_meaning.specs.Lexemes.{tokens}
 use Rattle.verdict.specs.Verdict.{Verdict, Diagnosed, Limited, Accepted, IsVerdict, image}
 
 -- the status, and the bytes that are due on the output and on the notes
@@ -90,16 +92,31 @@ status_of (Exits value) = Done
 status_of (Faults kind at address) = Machine
 status_of More = Running
 
--- a run prints the machine's line; a file that isn't loaded is refused
-abbrev pub due_of_machine : Result Outcome ElfFault → Due
-due_of_machine (Ok outcome) = record { status = status_of outcome; out = machine_line outcome; notes = [] }
-due_of_machine (Err fault) = noted BadImage (codes "image " ++ name_of fault)
+-- a run prints the machine's line, behind the lines that stand before it; a file that isn't loaded is refused
+abbrev pub due_of_machine : List ℕ → Result Outcome ElfFault → Due
+due_of_machine before (Ok outcome) = record { status = status_of outcome; out = before ++ machine_line outcome; notes = [] }
+due_of_machine before (Err fault) = noted BadImage (codes "image " ++ name_of fault)
 
--- ---- the tables of a grammar
+-- ---- a text that is made from a seed
 
 -- a name and a number
 abbrev pub counted : List ℕ → ℕ → List ℕ
 counted name number = line (name ++ codes " " ++ decimal number)
+
+-- the sizes of a text, in bytes and in tokens, and of its image
+abbrev pub drill_lines : List ℕ → List ℕ → List ℕ
+drill_lines text file =
+    counted (codes "source") (length text) ++ counted (codes "tokens") (length (tokens text)) ++ counted (codes "image") (length file)
+
+-- the steps that its machine is given
+abbrev pub drill_steps : ℕ
+drill_steps = 1000000
+
+-- its image runs, and the sizes stand before the machine's line
+abbrev pub due_of_drill : List ℕ → List ℕ → Due
+due_of_drill text file = due_of_machine (drill_lines text file) (machine file drill_steps)
+
+-- ---- the tables of a grammar
 
 -- the sizes of a grammar and of its tables
 abbrev pub sizes : Grammar → ℕ → List ℕ
@@ -118,8 +135,12 @@ pub data IsDueOfGrammar (g : Grammar) : Due → Type 0 where
 pub data IsDue : Command → List ℕ → Due → Type 0 where
   built : {bytes : List ℕ} {v : Verdict} → IsVerdict bytes v → IsDue Build bytes (due_of_verdict (λ p. done (image p)) bytes v)
   ran : {steps : ℕ} {bytes : List ℕ} {v : Verdict} → IsVerdict bytes v →
-      IsDue (Run steps) bytes (due_of_verdict (λ p. due_of_machine (machine (image p) steps)) bytes v)
-  emulated : {steps : ℕ} {bytes : List ℕ} → IsDue (Emu steps) bytes (due_of_machine (machine bytes steps))
+      IsDue (Run steps) bytes (due_of_verdict (λ p. due_of_machine [] (machine (image p) steps)) bytes v)
+  emulated : {steps : ℕ} {bytes : List ℕ} → IsDue (Emu steps) bytes (due_of_machine [] (machine bytes steps))
   -- a file that spells no grammar
   bad_grammar : {bytes : List ℕ} (fault : GrammarFault) → Spells bytes (Err fault) → IsDue Table bytes (noted BadGrammar (line_of_grammar_fault fault))
   tabled : {bytes : List ℕ} {d : Due} (g : Grammar) → Spells bytes (Ok g) → IsDueOfGrammar g d → IsDue Table bytes d
+  -- the text of the seed is the source, and a diagnostic tells its place there
+  drilled : {seed functions : ℕ} {bytes : List ℕ} {v : Verdict} → IsVerdict (drill_text seed functions) v →
+      IsDue (Drill seed functions) bytes
+      (due_of_verdict (λ p. due_of_drill (drill_text seed functions) (image p)) (drill_text seed functions) v)

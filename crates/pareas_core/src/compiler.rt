@@ -1,6 +1,7 @@
 //! The compiler: from a source to an executable file.
-ghost use Rattle.std.specs.Prelude.{◌≡◌, IfOk, IfErr};
+ghost use Rattle.std.specs.Prelude.{◌≡◌, length, IfOk, IfErr};
 ghost use Rattle.front_end.specs.Front.{IsRefusedBy};
+ghost use Rattle.source_meaning.specs.Lexemes.{tokens};
 ghost use Rattle.pareas_core.specs.Headline.{CompilesTo};
 
 use crate::code::code;
@@ -8,6 +9,30 @@ use elf_file::write;
 use front_end::{Refusal, front};
 use par_passes::Passes;
 use simulation::source_behaves;
+
+/// What is made of a source.
+#[derive(Drop)]
+pub(crate) struct Compiled {
+    /// The executable file.
+    pub(crate) file: Vec<u8>,
+    /// How many tokens the source has.
+    pub(crate) tokens: usize,
+}
+
+/// The executable file of a source and the number of its tokens, or why it has no file.
+pub(crate) fn compile_counting(crew: &impl Passes, source: &[u8]) -> Result<Compiled, Refusal>
+    ensures image { IfOk result (λ made. CompilesTo source.now made.file.items) }
+    ensures tokens { IfOk result (λ made. made.tokens ≡ length (tokens source.now)) }
+    ensures refused { IfErr result (IsRefusedBy source.now) }
+{
+    source_behaves();
+    let analysis = front(crew, source)?;
+    let words = code(crew, source, &analysis)?;
+    Ok(Compiled {
+        file: write(crew.alloc(), &words)?,
+        tokens: analysis.tokens.len(),
+    })
+}
 
 /// The executable file of a source, or why it has none: its first diagnostic, or the limit that it passes. It is the same for every
 /// plan, gate and schedule, and the only other refusal is that memory is out.
@@ -17,8 +42,6 @@ pub fn compile(crew: &impl Passes, source: &[u8]) -> Result<Vec<u8>, Refusal>
     // A refusal is what the definitions say of the source.
     ensures refused { IfErr result (IsRefusedBy source.now) }
 {
-    source_behaves();
-    let analysis = front(crew, source)?;
-    let words = code(crew, source, &analysis)?;
-    Ok(write(crew.alloc(), &words)?)
+    let made = compile_counting(crew, source)?;
+    Ok(made.file)
 }

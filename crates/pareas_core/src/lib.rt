@@ -3,6 +3,8 @@
 
 mod code;
 mod compiler;
+mod counts;
+mod drill;
 mod ends;
 mod machine;
 mod memory;

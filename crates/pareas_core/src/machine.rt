@@ -1,6 +1,6 @@
 // A run of an image on the machine, and the line that tells how it ended.
 
-ghost use Rattle.std.specs.Prelude.{◌≡◌, IfOk, Err};
+ghost use Rattle.std.specs.Prelude.{◌≡◌, ℕ, List, IfOk, Err};
 ghost use Rattle.pareas_core.specs.Output.{due_of_machine, exit_line, fault_line, kind_name, machine_line, status_of};
 ghost use Rattle.rv_isa.specs.Word.{word_of};
 ghost use Rattle.rv32_emul.specs.Machine.{machine};
@@ -62,7 +62,7 @@ fn line(alloc: Global, outcome: &Outcome) -> Result<Vec<u8>, AllocError>
 
 // The refusal of a file that isn't loaded.
 fn not_loaded(alloc: Global, fault: ElfFault) -> Result<Response, AllocError>
-    ensures { IfOk result (λ response. response ≡ due_of_machine (Err fault)) }
+    ensures { (before : List ℕ) → IfOk result (λ response. response ≡ due_of_machine before (Err fault)) }
 {
     Ok(Response {
         status: Status::BadImage,
@@ -71,9 +71,14 @@ fn not_loaded(alloc: Global, fault: ElfFault) -> Result<Response, AllocError>
     })
 }
 
-/// Loads the file and runs it for at most so many steps.
-pub(crate) fn emulate(alloc: Global, file: &[u8], steps: u32) -> Result<Response, AllocError>
-    ensures { IfOk result (λ response. response ≡ due_of_machine (machine file.now steps)) }
+/// Loads the file and runs it for at most so many steps; what the run prints stands behind the lines before.
+pub(crate) fn emulate(
+    alloc: Global,
+    before: Vec<u8>,
+    file: &[u8],
+    steps: u32,
+) -> Result<Response, AllocError>
+    ensures { IfOk result (λ response. response ≡ due_of_machine before.items (machine file.now steps)) }
 {
     loaded_runs();
     let mut machine = match Machine::load(alloc, file) {
@@ -82,9 +87,11 @@ pub(crate) fn emulate(alloc: Global, file: &[u8], steps: u32) -> Result<Response
         Err(ReadError::NoMemory) => return Err(AllocError),
     };
     let outcome = machine.run(u64::from(steps));
+    let mut out = before;
+    out.extend_from_slice(&line(alloc, &outcome)?)?;
     Ok(Response {
         status: status(&outcome),
-        out: line(alloc, &outcome)?,
+        out,
         notes: Vec::new(alloc),
     })
 }

@@ -1,8 +1,9 @@
 // The program: from its words and its input to its outputs and its status.
 
-ghost use Rattle.std.specs.Prelude.{◌≡◌, map, string_bytes};
+ghost use Rattle.std.specs.Prelude.{◌≡◌, true, false, Err, IfOk, map, string_bytes};
 ghost use Rattle.command_line.specs.Words.{command_of};
-ghost use Rattle.pareas_core.specs.Headline.{MeetsWords, most_bytes};
+ghost use Rattle.pareas_core.specs.Headline.{HasRead, MeetsWords, most_bytes, reads};
+ghost use Rattle.pareas_core.specs.Causes.{Rose};
 
 use crate::ends::{ByteIn, ByteOut};
 use crate::reading::{ReadError, read_up_to};
@@ -30,6 +31,29 @@ fn limit_of(command: Command) -> usize
         Command::Build | Command::Run { .. } => MOST_SOURCE,
         Command::Emu { .. } => MOST_IMAGE,
         Command::Table => MOST_GRAMMAR,
+        Command::Drill { .. } => 0,
+    }
+}
+
+// Whether a command reads the input.
+fn reads(command: Command) -> bool
+    ensures { result ≡ reads command }
+{
+    !matches!(command, Command::Drill { .. })
+}
+
+// What the command reads of the input.
+fn read_for<I: ByteIn>(alloc: Global, input: &mut I, command: Command) -> Result<Vec<u8>, ReadError>
+    ensures ok { IfOk result (λ bytes. HasRead command (I.left input.old) (I.left input.new) bytes.items) }
+    ensures worked { IfOk result (λ _. I.faults input.new ≡ I.faults input.old) }
+    ensures failed { result ≡ Err ReadError.Failed → Rose (I.faults input.old) (I.faults input.new) × (reads command ≡ true) }
+    ensures no_memory { result ≡ Err ReadError.NoMemory → I.faults input.new ≡ I.faults input.old }
+    ensures undisturbed { reads command ≡ false → (I.left input.new ≡ I.left input.old) × (I.faults input.new ≡ I.faults input.old) }
+{
+    if reads(command) {
+        read_up_to(alloc, input, limit_of(command))
+    } else {
+        Ok(Vec::new(alloc))
     }
 }
 
@@ -60,7 +84,7 @@ pub fn pareas<R: Threads + Sync, I: ByteIn, O: ByteOut, E: ByteOut, G: Gate>(
         }
         Err(Refusal::NoMemory) => return Status::NoMemory,
     };
-    let bytes = match read_up_to(alloc, input, limit_of(command)) {
+    let bytes = match read_for(alloc, input, command) {
         Ok(bytes) => bytes,
         Err(ReadError::Failed) => return Status::ReadFault,
         Err(ReadError::NoMemory) => return Status::NoMemory,

@@ -4,9 +4,10 @@ ghost use Rattle.std.specs.Prelude.{◌≡◌, ◌++◌, IfOk, OnOk, codes};
 ghost use Rattle.command_line.specs.declared.command.Command.TheVariants.{Build, Run};
 ghost use Rattle.pareas_core.specs.declared.status.Status.TheVariants.{Limit, Refused};
 ghost use Rattle.pareas_core.specs.Output.{at_place, noted};
-ghost use Rattle.pareas_core.specs.Headline.{IsDelivered, IsResponse};
+ghost use Rattle.pareas_core.specs.Headline.{IsDelivered, IsResponse, IsToldOf};
 
 use crate::compiler::compile;
+use crate::drill::drill;
 use crate::ends::ByteOut;
 use crate::machine::emulate;
 use crate::position::{column, line_number};
@@ -62,6 +63,21 @@ fn limit(alloc: Global, source: &[u8], code: u16, at: u32) -> Result<Response, A
     })
 }
 
+/// The line of a source that has no image.
+pub(crate) fn refused(
+    alloc: Global,
+    source: &[u8],
+    refusal: Refusal,
+) -> Result<Response, AllocError>
+    ensures { IfOk result (λ response. IsToldOf source.now refusal response) }
+{
+    match refusal {
+        Refusal::Diagnostic { code, at } => diagnostic(alloc, source, code, at),
+        Refusal::Limit { code, at, .. } => limit(alloc, source, code, at),
+        Refusal::NoMemory => Err(AllocError),
+    }
+}
+
 // The image of the source.
 fn build(crew: &impl Passes, source: &[u8]) -> Result<Response, AllocError>
     ensures { IfOk result (λ response. IsResponse Build source.now response) }
@@ -73,9 +89,7 @@ fn build(crew: &impl Passes, source: &[u8]) -> Result<Response, AllocError>
             out: file,
             notes: Vec::new(crew.alloc()),
         }),
-        Err(Refusal::Diagnostic { code, at }) => diagnostic(crew.alloc(), source, code, at),
-        Err(Refusal::Limit { code, at, .. }) => limit(crew.alloc(), source, code, at),
-        Err(Refusal::NoMemory) => Err(AllocError),
+        Err(refusal) => refused(crew.alloc(), source, refusal),
     }
 }
 
@@ -85,10 +99,8 @@ fn run(crew: &impl Passes, source: &[u8], steps: u32) -> Result<Response, AllocE
 {
     one_verdict();
     match compile(crew, source) {
-        Ok(file) => emulate(crew.alloc(), &file, steps),
-        Err(Refusal::Diagnostic { code, at }) => diagnostic(crew.alloc(), source, code, at),
-        Err(Refusal::Limit { code, at, .. }) => limit(crew.alloc(), source, code, at),
-        Err(Refusal::NoMemory) => Err(AllocError),
+        Ok(file) => emulate(crew.alloc(), Vec::new(crew.alloc()), &file, steps),
+        Err(refusal) => refused(crew.alloc(), source, refusal),
     }
 }
 
@@ -103,8 +115,9 @@ pub(crate) fn respond(
     match command {
         Command::Build => build(crew, bytes),
         Command::Run { steps } => run(crew, bytes, steps),
-        Command::Emu { steps } => emulate(crew.alloc(), bytes, steps),
+        Command::Emu { steps } => emulate(crew.alloc(), Vec::new(crew.alloc()), bytes, steps),
         Command::Table => table(crew.alloc(), bytes),
+        Command::Drill { seed, functions } => drill(crew, seed, functions),
     }
 }
 

@@ -1,6 +1,6 @@
 // The sizes of a grammar's parse tables, or why it has none.
 
-ghost use Rattle.std.specs.Prelude.{◌≡◌, ◌≢◌, ◌++◌, false, IfOk};
+ghost use Rattle.std.specs.Prelude.{◌≡◌, ◌≢◌, false, IfOk};
 ghost use Rattle.grammar_file.specs.declared.file.GrammarFault.TheVariants.{NoMemory as NoMemoryToRead};
 ghost use Rattle.llp_tables.specs.declared.fault.TableFault.TheVariants.{NoMemory as NoMemoryToBuild};
 ghost use Rattle.command_line.specs.declared.command.Command.TheVariants.{Table};
@@ -8,8 +8,9 @@ ghost use Rattle.grammar_file.specs.FaultLines.{line_of_fault as line_of_grammar
 ghost use Rattle.llp_tables.specs.FaultLines.{line_of_fault};
 ghost use Rattle.pareas_core.specs.declared.status.Status.TheVariants.{Conflict, BadGrammar};
 ghost use Rattle.pareas_core.specs.Headline.{IsResponse};
-ghost use Rattle.pareas_core.specs.Output.{IsDueOfGrammar, counted, noted, sizes};
+ghost use Rattle.pareas_core.specs.Output.{IsDueOfGrammar, noted, sizes};
 
+use crate::counts::push_count;
 use crate::response::Response;
 use crate::status::Status;
 use grammar_file::{
@@ -52,16 +53,6 @@ fn conflict(alloc: Global, grammar: &Grammar, fault: &TableFault) -> Result<Resp
         out: Vec::new(alloc),
         notes,
     })
-}
-
-// Writes a line with a name and a number behind the text.
-fn push_count(alloc: Global, text: &mut Vec<u8>, name: &[u8], number: u64) -> Result<(), AllocError>
-    ensures { IfOk result (λ _. text.new.items ≡ text.old.items ++ counted name.now number) }
-{
-    let number = format!(in alloc; " {number}\n")?;
-    text.extend_from_slice(name)?;
-    text.extend_from_slice(number.as_bytes())?;
-    Ok(())
 }
 
 // The lines of a grammar's and its tables' sizes.

@@ -219,7 +219,14 @@ fn runs_programs_of_the_whole_language(rt: HostRuntime) -> Result<(), Fail> {
     Ok(())
 }
 
-/// Sees that the words are refused: nothing goes to the output, and a text that begins so to the notes.
+/// Sees that all these bytes are left on the input.
+fn expect_unread<R: Abort>(rt: &R, input: &mut MemoryIn, bytes: &[u8]) {
+    let mut buffer = [0; 64];
+    let count = input.read(&mut buffer).unwrap_or(0);
+    assert_eq!(rt; &buffer[..count.min(64)], bytes);
+}
+
+/// Sees that the words are refused: nothing is read, nothing goes to the output, and a text that begins so to the notes.
 fn expect_refusal<R: Threads + Abort + Sync>(
     rt: &R,
     alloc: Global,
@@ -236,13 +243,19 @@ fn expect_refusal<R: Threads + Abort + Sync>(
     assert_eq!(rt; ended, Status::Usage);
     assert!(rt; out.written().is_empty());
     assert!(rt; notes.written().starts_with(beginning));
+    expect_unread(rt, &mut input, SEVEN);
     Ok(())
 }
 
 #[test]
 fn refuses_words(rt: HostRuntime) -> Result<(), Fail> {
-    let rows: [(&[&str], &[u8]); 7] = [
+    let rows: [(&[&str], &[u8]); 9] = [
         (&["pareas"], b"error: 'pareas' requires a subcommand"),
+        (
+            &["pareas", "drill", "--seed", "1", "--functions", "0"],
+            b"error: invalid value '0'",
+        ),
+        (&["pareas", "drill", "--functions", "1"], b"error: "),
         (
             &["pareas", "bild"],
             b"error: unrecognized subcommand 'bild'",
@@ -482,5 +495,94 @@ fn grammar_files_have_a_limit(rt: HostRuntime) -> Result<(), Fail> {
     file.push(b' ')?;
     let refusal = b"grammar too large\n";
     expect_table(&rt, rt.alloc(), &file, (Status::BadGrammar, b"", refusal))?;
+    Ok(())
+}
+
+#[test]
+fn drills_the_same_for_every_plan(rt: HostRuntime) -> Result<(), Fail> {
+    let rows: [(&str, &[u8]); 2] = [
+        ("1", b"source 144\ntokens 61\nimage 296\nexit 650\n"),
+        ("2", b"source 261\ntokens 111\nimage 448\nexit 30379224\n"),
+    ];
+    for workers in ["1", "4", "64"] {
+        for chunk in ["1", "7", "65536"] {
+            for (functions, out) in rows {
+                let words = [
+                    "pareas",
+                    "drill",
+                    "--seed",
+                    "1",
+                    "--functions",
+                    functions,
+                    "--workers",
+                    workers,
+                    "--chunk",
+                    chunk,
+                ];
+                expect(
+                    &rt,
+                    rt.alloc(),
+                    &words,
+                    b"",
+                    &SOUND,
+                    (Status::Done, out, b""),
+                )?;
+            }
+        }
+    }
+    Ok(())
+}
+
+#[test]
+fn drills_by_seeds(rt: HostRuntime) -> Result<(), Fail> {
+    let rows: [(&str, &[u8]); 2] = [
+        (
+            "0",
+            b"source 380\ntokens 161\nimage 600\nexit -1002442593\n",
+        ),
+        (
+            "4294967295",
+            b"source 379\ntokens 161\nimage 600\nexit -2027067966\n",
+        ),
+    ];
+    for (seed, out) in rows {
+        let words = ["pareas", "drill", "--seed", seed, "--functions", "3"];
+        expect(
+            &rt,
+            rt.alloc(),
+            &words,
+            b"",
+            &SOUND,
+            (Status::Done, out, b""),
+        )?;
+    }
+    Ok(())
+}
+
+#[test]
+fn drills_without_reading(rt: HostRuntime) -> Result<(), Fail> {
+    let words = words_of(
+        rt.alloc(),
+        &["pareas", "drill", "--seed", "1", "--functions", "1"],
+    )?;
+    let failing = [1].as_slice().to_vec(rt.alloc())?;
+    let mut input = MemoryIn::new(SEVEN.to_vec(rt.alloc())?, 4096, Vec::new(rt.alloc()));
+    let mut out = MemoryOut::new(rt.alloc(), 4096, Vec::new(rt.alloc()));
+    let mut notes = MemoryOut::new(rt.alloc(), 4096, failing);
+    let ended = pareas(
+        &rt,
+        rt.alloc(),
+        &words,
+        &mut input,
+        &mut out,
+        &mut notes,
+        &OpenGate,
+    );
+    assert_eq!(rt; ended, Status::Done);
+    assert_eq!(rt;
+        out.written(),
+        b"source 144\ntokens 61\nimage 296\nexit 650\n".as_slice()
+    );
+    expect_unread(&rt, &mut input, SEVEN);
     Ok(())
 }

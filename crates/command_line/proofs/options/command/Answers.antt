@@ -17,9 +17,11 @@ returns c =
     let run_plain = ap (λ (s : Shape). s.is_plain) c.in_ok-run.ensures in
     let emu_plain = ap (λ (s : Shape). s.is_plain) c.in_ok-emu.ensures in
     let table_plain = ap (λ (s : Shape). s.is_plain) c.table.ensures in
+    let drill_plain = ap (λ (s : Shape). s.is_plain) c.in_ok-drill.ensures in
     let one = c.in_ok-subcommand.ensures.shape (is_not _ (and_parts _ _ (and_parts _ _ (and_parts _ _ build_plain).1).1).0) ∙ ap₂ with_subcommand bare_is c.in_ok-build.ensures in
     let two = c.in_ok-subcommand-2.ensures.shape (is_not _ (and_parts _ _ (and_parts _ _ (and_parts _ _ run_plain).1).1).0) ∙ ap₂ with_subcommand one c.in_ok-run.ensures in
     let three = c.in_ok-subcommand-3.ensures.shape (is_not _ (and_parts _ _ (and_parts _ _ (and_parts _ _ emu_plain).1).1).0) ∙ ap₂ with_subcommand two c.in_ok-emu.ensures in
-    IfOk-weaker c.subcommand-4.result _ _
-    (λ m h. h.shape (is_not _ (and_parts _ _ (and_parts _ _ (and_parts _ _ table_plain).1).1).0) ∙ ap₂ with_subcommand three c.table.ensures)
-    c.subcommand-4.ensures
+    let four = c.in_ok-subcommand-4.ensures.shape (is_not _ (and_parts _ _ (and_parts _ _ (and_parts _ _ table_plain).1).1).0) ∙ ap₂ with_subcommand three c.table.ensures in
+    IfOk-weaker c.subcommand-5.result _ _
+    (λ m h. h.shape (is_not _ (and_parts _ _ (and_parts _ _ (and_parts _ _ drill_plain).1).1).0) ∙ ap₂ with_subcommand four c.in_ok-drill.ensures)
+    c.subcommand-5.ensures

@@ -1,4 +1,4 @@
-use Rattle.std.proofs.Common.{◌≡◌, ◌∙◌, ap, [], ◌∷◌, Some, rules}
+use Rattle.std.proofs.Common.{◌≡◌, ◌∙◌, ap, Some, rules}
 use Rattle.clap.specs.Words.{Rule, rule_of}
 use Rattle.clap.specs.declared.builder.action.ArgAction.TheVariants.{Set}
 use Rattle.command_line.proofs.options.number_option.Goals as goal
@@ -9,6 +9,6 @@ returns-clause-rule c =
     let parser : c.value_parser.result.value_parser ≡ Some c.args.numbers = given.1 ∙ ap Some (search rules) in
     let other = c.value_parser.ensures.others in
     ap rule_of c.help.ensures
-    ∙ ap rule_of c.default_value.ensures
-    ∙ ap (λ (r : Rule). record r { defaults = c.args.default.now ∷ [] }) (ap rule_of other ∙ ap (λ p. record (rule_of c.value_name.result) { parser = p }) parser)
-    ∙ ap (λ (r : Rule). record r { defaults = c.args.default.now ∷ []; parser = Some c.args.numbers }) (ap rule_of c.value_name.ensures ∙ ap (λ (r : Rule). record r { value_names = 1 }) (ap rule_of c.action.ensures ∙ ap (λ (r : Rule). record r { action = Some Set }) (ap rule_of c.long.ensures ∙ ap (λ (r : Rule). record r { long = Some c.args.name.now }) c.new.ensures.rule)))
+    ∙ ap rule_of other
+    ∙ ap (λ p. record (rule_of c.value_name.result) { parser = p }) parser
+    ∙ ap (λ (r : Rule). record r { parser = Some c.args.numbers }) (ap rule_of c.value_name.ensures ∙ ap (λ (r : Rule). record r { value_names = 1 }) (ap rule_of c.action.ensures ∙ ap (λ (r : Rule). record r { action = Some Set }) (ap rule_of c.long.ensures ∙ ap (λ (r : Rule). record r { long = Some c.args.name.now }) c.new.ensures.rule)))

@@ -8,4 +8,5 @@ use Rattle.pareas_core.proofs.machine.emulate.Goals as goal
 pub returns-in-Err-Fault : goal.returns-in-Err-Fault
 returns-in-Err-Fault c =
     let refused = c.loaded_runs.ensures.none c.args.file.now c.in-Err-Fault.fault c.args.steps (subst (IsRefusal (started c.args.file.now)) c.in-Err-Fault.field-0-is c.in-Err-Fault.ensures) in
-    IfOk-weaker c.not_loaded.result _ _ (λ d h. h ∙ ap due_of_machine (sym refused)) c.not_loaded.ensures
+    let before = c.args.before.items in
+    IfOk-weaker c.not_loaded.result _ _ (λ d h. h ∙ ap (due_of_machine before) (sym refused)) (c.not_loaded.ensures before)

@@ -1,27 +1,20 @@
-use Rattle.std.proofs.Common.{ap, ◌∙◌, subst}
+use Rattle.std.proofs.Common.{ap, ◌∙◌}
 use Rattle.std.proofs.lemmas.Result.{IfOk-weaker}
-use Rattle.verdict.specs.Verdict.{Diagnosed, Limited}
-use Rattle.front_end.specs.Front.{IsRefusedBy}
 use Rattle.rv32_emul.specs.Machine.{machine}
 use Rattle.pareas_core.specs.Output.{due_of_machine}
-use Rattle.pareas_core.proofs.Meeting.{run_through, refused_run}
+use Rattle.pareas_core.proofs.Meeting.{by_run, no_lines, ran_through, refused, running}
 use Rattle.pareas_core.proofs.response.run.Goals as goal
 
 pub returns-in-Ok : goal.returns-in-Ok
 returns-in-Ok g c =
     IfOk-weaker c.emulate.result _ _
-    (λ d h. run_through c.args.steps c.args.source.now c.in-Ok.file.items d c.in-Ok.ensures.image (c.one_verdict.ensures c.args.source.now)
-    (h ∙ ap (λ f. due_of_machine (machine f c.args.steps)) c.deref.ensures.value))
+    (λ d h. ran_through c.args.steps c.args.source.now c.in-Ok.file.items d c.in-Ok.ensures.image (c.one_verdict.ensures c.args.source.now)
+    (h ∙ (λ i. due_of_machine (c.new.ensures.items i) (machine (c.deref.ensures.value i) c.args.steps))))
     c.emulate.ensures
 
-pub returns-in-Err-Diagnostic : goal.returns-in-Err-Diagnostic
-returns-in-Err-Diagnostic g c =
+pub returns-in-Err : goal.returns-in-Err
+returns-in-Err g c =
     let text = c.args.source.now in
-    let verdict = subst (IsRefusedBy text) c.in-Err-Diagnostic.field-0-is c.in-Err-Diagnostic.ensures.refused in
-    IfOk-weaker c.diagnostic.result _ _ (λ d h. refused_run c.args.steps text (Diagnosed c.in-Err-Diagnostic.code c.in-Err-Diagnostic.at) d verdict (c.one_verdict.ensures text) h) c.diagnostic.ensures
-
-pub returns-in-Err-Limit : goal.returns-in-Err-Limit
-returns-in-Err-Limit g c =
-    let text = c.args.source.now in
-    let verdict = subst (IsRefusedBy text) c.in-Err-Limit.field-0-is c.in-Err-Limit.ensures.refused in
-    IfOk-weaker c.limit.result _ _ (λ d h. refused_run c.args.steps text (Limited c.in-Err-Limit.code c.in-Err-Limit.at c.in-Err-Limit.field-0-2) d verdict (c.one_verdict.ensures text) h) c.limit.ensures
+    IfOk-weaker c.refused.result _ _
+    (λ d line. refused _ text text (running no_lines c.args.steps) (by_run c.args.steps text) (c.one_verdict.ensures text) c.in-Err.refusal d c.in-Err.ensures.refused line)
+    c.refused.ensures

@@ -3,7 +3,7 @@ use Rattle.source_meaning.specs.Grammar.{ast}
 use Rattle.elf_file.specs.Image.{elf}
 use Rattle.verdict.specs.Verdict.{image}
 use Rattle.simulation.specs.Behaves.{Behaves}
-use Rattle.pareas_core.proofs.compiler.compile.Goals as goal
+use Rattle.pareas_core.proofs.compiler.compile_counting.Goals as goal
 
 pub returns-clause-image : goal.returns-clause-image
 returns-clause-image g c =
