@@ -24,4 +24,6 @@ pub use program::pareas;
 pub use status::Status;
 
 #[cfg(test)]
+mod gate_tests;
+#[cfg(test)]
 mod tests;

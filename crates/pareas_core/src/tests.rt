@@ -170,52 +170,58 @@ fn refuses_sources_with_their_lines(rt: HostRuntime) -> Result<(), Fail> {
     Ok(())
 }
 
+/// Sources of one expression or some statements, and what `run` prints.
+const PROGRAMS: [(&[u8], &[u8]); 8] = [
+    (b"fn main(): int { return 8-3-2; }", b"exit 3\n"),
+    (
+        b"fn main(): int { return (-2147483647-1)/-1; }",
+        b"exit -2147483648\n",
+    ),
+    (b"fn main(): int { return 1/0; }", b"exit -1\n"),
+    (b"fn main(): int { return 5%0; }", b"exit 5\n"),
+    (b"fn main(): int { return 1<<33; }", b"exit 2\n"),
+    (
+        b"fn main(): int { var x: int = 1; return x + (x = 3); }",
+        b"exit 4\n",
+    ),
+    (
+        b"fn le(): bool { return 1<=2 == true; } fn main(): int { if le[] { return 1; } return 0; }",
+        b"exit 1\n",
+    ),
+    (
+        b"fn f(var a: int): int { return a; } fn main(): int { return 1+(2+(3+(4+(5+(6+(7+(8+(9+(10+(11+(12+(13+f[14])))))))))))); }",
+        b"exit 105\n",
+    ),
+];
+
+const ENDLESS: &[u8] = b"fn main(): int { while true { } }";
+
+const DEEP: &[u8] = b"fn f(): int { return f[]; } fn main(): int { return f[]; }";
+
+const RUN: [&str; 2] = ["pareas", "run"];
+
 #[test]
 fn runs_programs_of_the_whole_language(rt: HostRuntime) -> Result<(), Fail> {
-    let rows: [(&[u8], &[u8]); 8] = [
-        (b"fn main(): int { return 8-3-2; }", b"exit 3\n"),
-        (
-            b"fn main(): int { return (-2147483647-1)/-1; }",
-            b"exit -2147483648\n",
-        ),
-        (b"fn main(): int { return 1/0; }", b"exit -1\n"),
-        (b"fn main(): int { return 5%0; }", b"exit 5\n"),
-        (b"fn main(): int { return 1<<33; }", b"exit 2\n"),
-        (
-            b"fn main(): int { var x: int = 1; return x + (x = 3); }",
-            b"exit 4\n",
-        ),
-        (
-            b"fn le(): bool { return 1<=2 == true; } fn main(): int { if le[] { return 1; } return 0; }",
-            b"exit 1\n",
-        ),
-        (
-            b"fn f(var a: int): int { return a; } fn main(): int { return 1+(2+(3+(4+(5+(6+(7+(8+(9+(10+(11+(12+(13+f[14])))))))))))); }",
-            b"exit 105\n",
-        ),
-    ];
-    for (source, out) in rows {
-        expect(
-            &rt,
-            rt.alloc(),
-            &["pareas", "run"],
-            source,
-            &SOUND,
-            (Status::Done, out, b""),
-        )?;
+    for (source, out) in PROGRAMS {
+        let done: (Status, &[u8], &[u8]) = (Status::Done, out, b"");
+        expect(&rt, rt.alloc(), &RUN, source, &SOUND, done)?;
     }
-    let endless = b"fn main(): int { while true { } }";
-    expect(
-        &rt,
-        rt.alloc(),
-        &["pareas", "run", "--steps", "1000"],
-        endless,
-        &SOUND,
-        (Status::Running, b"running\n", b""),
-    )?;
-    let deep = b"fn f(): int { return f[]; } fn main(): int { return f[]; }";
+    Ok(())
+}
+
+#[test]
+fn runs_that_do_not_exit(rt: HostRuntime) -> Result<(), Fail> {
+    for steps in ["0", "1", "1000"] {
+        let words = ["pareas", "run", "--steps", steps];
+        let running: (Status, &[u8], &[u8]) = (Status::Running, b"running\n", b"");
+        expect(&rt, rt.alloc(), &words, ENDLESS, &SOUND, running)?;
+    }
+    let words = ["pareas", "run", "--steps", "327682"];
+    let running: (Status, &[u8], &[u8]) = (Status::Running, b"running\n", b"");
+    expect(&rt, rt.alloc(), &words, DEEP, &SOUND, running)?;
+    let words = ["pareas", "run", "--steps", "327683"];
     let overrun: (Status, &[u8], &[u8]) = (Status::Machine, b"fault store at 0x00010064\n", b"");
-    expect(&rt, rt.alloc(), &["pareas", "run"], deep, &SOUND, overrun)?;
+    expect(&rt, rt.alloc(), &words, DEEP, &SOUND, overrun)?;
     Ok(())
 }
 
