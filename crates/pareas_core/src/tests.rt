@@ -567,14 +567,20 @@ fn drills_by_seeds(rt: HostRuntime) -> Result<(), Fail> {
 
 #[test]
 fn drills_without_reading(rt: HostRuntime) -> Result<(), Fail> {
-    let words = words_of(
-        rt.alloc(),
-        &["pareas", "drill", "--seed", "1", "--functions", "1"],
-    )?;
-    let failing = [1].as_slice().to_vec(rt.alloc())?;
+    let drill = ["pareas", "drill", "--seed", "1", "--functions", "1"];
+    let sizes_and_exit = b"source 144\ntokens 61\nimage 296\nexit 650\n";
+    let failing = Ends {
+        read_step: 4096,
+        write_step: 4096,
+        failing_reads: &[1],
+        failing_writes: &[],
+    };
+    let done: (Status, &[u8], &[u8]) = (Status::Done, sizes_and_exit, b"");
+    expect(&rt, rt.alloc(), &drill, SEVEN, &failing, done)?;
+    let words = words_of(rt.alloc(), &drill)?;
     let mut input = MemoryIn::new(SEVEN.to_vec(rt.alloc())?, 4096, Vec::new(rt.alloc()));
     let mut out = MemoryOut::new(rt.alloc(), 4096, Vec::new(rt.alloc()));
-    let mut notes = MemoryOut::new(rt.alloc(), 4096, failing);
+    let mut notes = MemoryOut::new(rt.alloc(), 4096, Vec::new(rt.alloc()));
     let ended = pareas(
         &rt,
         rt.alloc(),
@@ -585,10 +591,6 @@ fn drills_without_reading(rt: HostRuntime) -> Result<(), Fail> {
         &OpenGate,
     );
     assert_eq!(rt; ended, Status::Done);
-    assert_eq!(rt;
-        out.written(),
-        b"source 144\ntokens 61\nimage 296\nexit 650\n".as_slice()
-    );
     expect_unread(&rt, &mut input, SEVEN);
     Ok(())
 }
