@@ -1,0 +1,2 @@
+//! Nearest marked ancestors, for every kind of plan.
+use super::*;
