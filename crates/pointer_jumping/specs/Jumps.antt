@@ -36,11 +36,11 @@ StandsBelow n Root = Unit {0}
 StandsBelow n (Found p) = Unit {0}
 StandsBelow n (To j) = j < n
 
--- the jump onwards from where it stands
+-- what is known ahead, at the node where the jump stands, or the same where it has come to the end
 abbrev pub onwards : List Jump → Jump → Jump
-onwards jumps Root = Root
-onwards jumps (Found p) = Found p
-onwards jumps (To j) = jump_at jumps j
+onwards ahead Root = Root
+onwards ahead (Found p) = Found p
+onwards ahead (To j) = jump_at ahead j
 
 -- the ancestor that the jump has found
 abbrev pub found_by : Jump → Option ℕ

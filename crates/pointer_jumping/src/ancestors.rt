@@ -2,7 +2,7 @@
 ghost use Rattle.std.specs.Prelude.{◌≡◌, ◌+◌, ◌*◌, ◌<◌, ◌≤◌, ◌^◌, ℕ, None, length, slice_index_or, IfOk};
 ghost use Rattle.pointer_jumping.specs.Climbs.{AreUpward, AreWithin, Climbs};
 
-use crate::rounds::{answers, any_open, first_jumps, next_jumps};
+use crate::rounds::{answers, any_open, first_jumps, jump_on};
 use par_passes::Passes;
 use scan_lookback::Steps;
 use std::alloc::AllocError;
@@ -28,7 +28,7 @@ pub fn nearest<L: Ledger>(
     let mut jumps = first_jumps(crew, parents, marks)?;
     while any_open(crew, jumps.as_slice())? {
         steps.tick();
-        jumps = next_jumps(crew, jumps.as_slice())?;
+        jumps = jump_on(crew, jumps.as_slice(), jumps.as_slice())?;
     }
     answers(crew, jumps.as_slice())
 }

@@ -34,13 +34,13 @@ impl Jump {
         }
     }
 
-    /// What the node where it stands knows, or the same where it has come to the end.
-    pub(crate) fn onwards(self, jumps: &[Jump]) -> Jump
-        requires { StandsBelow (length jumps.now) self }
-        ensures { result ≡ onwards_from jumps.now self }
+    /// What is known ahead, at the node where it stands, or the same where it has come to the end.
+    pub(crate) fn onwards(self, ahead: &[Jump]) -> Jump
+        requires { StandsBelow (length ahead.now) self }
+        ensures { result ≡ onwards_from ahead.now self }
     {
         match self {
-            Jump::To(node) => jumps[node as usize],
+            Jump::To(node) => ahead[node as usize],
             settled => settled,
         }
     }

@@ -28,17 +28,21 @@ pub(crate) fn first_jumps(
     crew.tabulate(parents.len() as u32, &first)
 }
 
-/// What each node knows after one more round.
-pub(crate) fn next_jumps(crew: &impl Passes, jumps: &[Jump]) -> Result<Vec<Jump>, AllocError>
+/// The jumps, each of which takes over what is known ahead, at the node where it stands.
+pub(crate) fn jump_on(
+    crew: &impl Passes,
+    jumps: &[Jump],
+    ahead: &[Jump],
+) -> Result<Vec<Jump>, AllocError>
     requires few { length jumps.now < 2 ^ 32 }
-    requires standing { (i : ℕ) → i < length jumps.now → StandsBelow (length jumps.now) (jump_at jumps.now i) }
-    ensures { IfOk result (λ v. v.items ≡ map (onwards jumps.now) jumps.now) }
+    requires standing { (i : ℕ) → i < length jumps.now → StandsBelow (length ahead.now) (jump_at jumps.now i) }
+    ensures { IfOk result (λ v. v.items ≡ map (onwards ahead.now) jumps.now) }
 {
-    let step = |jump: Jump| -> Jump
-        requires { StandsBelow (length jumps.now) jump }
-        ensures { result ≡ onwards jumps.entry.now jump }
-    { jump.onwards(jumps) };
-    crew.map(jumps, &step)
+    let take_over = |jump: Jump| -> Jump
+        requires { StandsBelow (length ahead.now) jump }
+        ensures { result ≡ onwards ahead.entry.now jump }
+    { jump.onwards(ahead) };
+    crew.map(jumps, &take_over)
 }
 
 // The nodes whose jumps haven't come to the end.

@@ -1,4 +1,4 @@
-use Rattle.std.proofs.Common.{◌≡◌, ℕ, ◌-◌, ◌<◌, ◌^◌, ◌∙◌, false, List, length, map, refl, sym, subst, arith}
+use Rattle.std.proofs.Common.{◌≡◌, ℕ, ◌-◌, ◌<◌, ◌^◌, ◌∙◌, false, List, length, map, refl, ap₂, sym, subst, arith}
 use Rattle.par_passes.proofs.Calling.{if_ok}
 use Rattle.pointer_jumping.specs.declared.jump.Jump.{Jump}
 use Rattle.pointer_jumping.specs.Jumps.{StandsBelow, is_open, jump_at, onwards, found_by}
@@ -16,10 +16,13 @@ returns-in_err-any_open-clause-rounds g c =
     let counted = c.loop-jumps.invariant.counted in
     (c.loop-jumps.steps - c.args.steps.now, omega arith, c.loop-jumps.invariant.rounds.few)
 
-pub next_jumps-requires-clause-standing : goal.next_jumps-requires-clause-standing
-next_jumps-requires-clause-standing g c κs within =
-    subst (λ (l : List Jump). (i : ℕ) → i < length l → StandsBelow (length l) (jump_at l i)) (sym c.as_slice-in-loop-jumps.ensures.value)
-    (standing_all c.args.parents.now c.args.marks.now c.requires.upward (2 ^ (c.loop-jumps.steps - c.args.steps.now)) c.loop-jumps.jumps.items c.loop-jumps.invariant.rounds.jumps_are)
+pub jump_on-requires-clause-standing : goal.jump_on-requires-clause-standing
+jump_on-requires-clause-standing g c κs within =
+    let seen = c.as_slice-in-loop-jumps in
+    let ahead = c.as_slice-in-loop-jumps-2 in
+    let all = standing_all c.args.parents.now c.args.marks.now c.requires.upward (2 ^ (c.loop-jumps.steps - c.args.steps.now)) c.loop-jumps.jumps.items c.loop-jumps.invariant.rounds.jumps_are in
+    subst (λ (l : List Jump). (i : ℕ) → i < length seen.result.now → StandsBelow (length l) (jump_at seen.result.now i)) (seen.ensures.value ∙ sym ahead.ensures.value)
+    (subst (λ (l : List Jump). (i : ℕ) → i < length l → StandsBelow (length l) (jump_at l i)) (sym seen.ensures.value) all)
 
 pub loop-jumps-smaller : goal.loop-jumps-smaller
 loop-jumps-smaller g c =
@@ -44,7 +47,7 @@ loop-jumps-preserved g c =
           round_more c.args.parents.now c.args.marks.now c.requires.upward r seen
           (subst (AreRounds c.args.parents.now c.args.marks.now r) (sym c.as_slice.ensures.value) c.loop-jumps.invariant.rounds)
           left.0 left.1 left.2 (c.tick.new.self - c.args.steps.now) (omega arith) c.in_ok-jumps-2.jumps.items
-          (subst (λ (l : List Jump). c.in_ok-jumps-2.jumps.items ≡ map (onwards l) l) (c.as_slice-in-loop-jumps.ensures.value ∙ sym c.as_slice.ensures.value) c.in_ok-jumps-2.ensures);
+          (c.in_ok-jumps-2.ensures ∙ ap₂ (λ (a b : List Jump). map (onwards a) b) (c.as_slice-in-loop-jumps-2.ensures.value ∙ sym c.as_slice.ensures.value) (c.as_slice-in-loop-jumps.ensures.value ∙ sym c.as_slice.ensures.value));
     }
 
 pub returns-in_err-jumps-2-clause-rounds : goal.returns-in_err-jumps-2-clause-rounds
