@@ -1,20 +1,12 @@
 //! Stretches of places that workers do, each by itself.
 ghost use Rattle.std.specs.Prelude.{◌≡◌, ◌<◌, ◌≤◌, ◌^◌, length, map, IfOk};
 ghost use Rattle.nearest_all.specs.Nearest.{number_at, Nested};
-ghost use Rattle.nearest_all.specs.Stretches.{AreCuts, start_of as start_at};
+ghost use Rattle.nearest_all.specs.Stretches.{AreCuts, start_of};
 ghost use Rattle.nearest_all.specs.Alone.{near_alone, near_by_stretches};
 
-use nearest_all::{Near, Nearest, stretch_alone};
+use nearest_all::{Near, Nearest, stretch_alone, stretch_start};
 use par_passes::Passes;
 use std::alloc::{AllocError, Global};
-
-// Where stretch number c begins, of those that end where `ends` says.
-fn start_of(ends: &[usize], c: usize) -> usize
-    requires { c ≤ length ends.now }
-    ensures { result ≡ start_at ends.now c }
-{
-    if c == 0 { 0 } else { ends[c - 1] }
-}
 
 // What stretch number c knows of its places.
 fn stretch_by_number(
@@ -29,9 +21,10 @@ fn stretch_by_number(
     requires nested { Nested values.now bounds.now 0 (length values.now) }
     requires cuts { AreCuts ends.now (length values.now) }
     requires inside { c < length ends.now }
-    ensures { IfOk result (λ v. v.items ≡ near_alone values.now bounds.now (start_at ends.now c) (number_at ends.now c)) }
+    ensures { IfOk result (λ v. v.items ≡ near_alone values.now bounds.now (start_of ends.now c) (number_at ends.now c)) }
 {
-    stretch_alone(alloc, values, bounds, start_of(ends, c), ends[c])
+    let from = stretch_start(ends, c);
+    stretch_alone(alloc, values, bounds, from, ends[c])
 }
 
 // What all stretches know, one behind the other.
@@ -51,7 +44,7 @@ fn near_all(
     let alloc = crew.alloc();
     let make = |c: u64| -> Result<Vec<Near>, AllocError>
         requires { (length bounds.now ≡ length values.now) × (length values.now ≤ 4294967295) × Nested values.now bounds.now 0 (length values.now) × AreCuts ends.now (length values.now) × (c < length ends.now) }
-        ensures { IfOk result (λ v. v.items ≡ near_alone values.entry.now bounds.entry.now (start_at ends.entry.now c) (number_at ends.entry.now c)) }
+        ensures { IfOk result (λ v. v.items ≡ near_alone values.entry.now bounds.entry.now (start_of ends.entry.now c) (number_at ends.entry.now c)) }
     { stretch_by_number(alloc, values, bounds, ends, c as usize) };
     crew.by_chunks(ends.len(), values.len(), &make)
 }

@@ -1,5 +1,5 @@
 -- The lists of what stretches know by themselves, one behind the other, have it at its places.
-use Rattle.std.proofs.Common.{◌≡◌, ℕ, zero, suc, ◌+◌, ◌-◌, ◌<◌, ◌≤◌, ◌⊎◌, inl, inr, List, ◌++◌, length, map, get_or, refl, sym, ap, ◌∙◌, subst, arith, append-nil, append_assoc}
+use Rattle.std.proofs.Common.{◌≡◌, ℕ, zero, suc, ◌+◌, ◌-◌, ◌<◌, ◌≤◌, ◌⊎◌, inl, inr, List, ◌++◌, length, map, get_or, refl, sym, ap, ◌∙◌, subst, arith}
 use Rattle.std.specs.List.{range_with_len, flat_map}
 use Rattle.std.proofs.lemmas.Bool.{cases_lt}
 use Rattle.std.proofs.lemmas.List.{get_or-map, length-append, get_or_append_left, get_or-append_right}
@@ -9,15 +9,8 @@ use Rattle.nearest_all.specs.Nearest.{number_at}
 use Rattle.nearest_all.specs.Stretches.{IsNextUntil, IsBeginFrom, start_of, AreCuts, Stretched}
 use Rattle.nearest_all.specs.Alone.{next_until, begin_from, near_of, near_alone, near_by_stretches}
 use Rattle.nearest_all.proofs.Along.{starts_rise}
+use Rattle.nearest_all.proofs.Cutting.{flat_map_more}
 use Rattle.nearest_all.proofs.Unique.{next_until_is, begin_from_is}
-
--- one list more behind the others
-flat_map_more : {X : Type 0} (part : ℕ → List X) (a n : ℕ) → flat_map part (range_with_len a (suc n)) ≡ flat_map part (range_with_len a n) ++ part (a + n)
-flat_map_more part a zero = let z : a ≡ a + 0 = omega arith in append-nil (part a) ∙ ap part z
-flat_map_more {X} part a (suc n) =
-    let z : a + 1 + n ≡ a + suc n = omega arith in
-    ap (λ (l : List X). part a ++ l) (flat_map_more part (a + 1) n ∙ ap (λ (m : ℕ). flat_map part (range_with_len (a + 1) n) ++ part m) z)
-    ∙ sym (append_assoc (part a) (flat_map part (range_with_len (a + 1) n)) (part (a + suc n)))
 
 module _ (xs bs ends : List ℕ) (n : ℕ) (cuts : AreCuts ends n) where
   abbrev none : Near

@@ -3,10 +3,10 @@ use Rattle.std.proofs.Common.{◌≡◌, ℕ, zero, suc, ◌+◌, ◌-◌, ◌<�
 use Rattle.std.specs.Prelude.{nat_le, if◌then◌else◌}
 use Rattle.std.specs.List.{position_from, range_with_len}
 use Rattle.std.proofs.lemmas.Bool.{cases_lt}
-use Rattle.std.proofs.lemmas.List.{length-take-le}
+use Rattle.std.proofs.lemmas.List.{length-take-le, take_all}
 use Rattle.std.proofs.lemmas.List.FromFn.{get_or-map-range_with_len, length-map-range_with_len}
 use Rattle.nearest_all.specs.declared.near.Near.{Near}
-use Rattle.nearest_all.specs.Nearest.{number_at, prev_below, place_or, behind}
+use Rattle.nearest_all.specs.Nearest.{number_at, next_le, prev_below, place_or, behind, nexts}
 use Rattle.nearest_all.specs.Stretches.{IsNextUntil, IsBeginFrom, Known}
 use Rattle.nearest_all.specs.Alone.{next_until, begin_from, near_of, near_alone}
 use Rattle.nearest_all.proofs.Whole.{le_true, le_false, lt_true, lt_false}
@@ -129,6 +129,14 @@ module _ (xs bs : List ℕ) where
             found = λ lt. absurd (omega arith);
             none = λ le. f.is;
           }
+
+  -- the next of all places
+  pub next_at : (k : ℕ) → k < length xs → IsNextUntil xs bs (length xs) k (number_at (nexts xs bs) k)
+  next_at k lt =
+      subst (IsNextUntil xs bs (length xs) k)
+      (ap (λ (ns : List ℕ). place_or (length xs) (next_le ns k (number_at bs k))) (take_all (length xs) xs (omega arith))
+      ∙ sym (get_or-map-range_with_len (λ i. place_or (length xs) (next_le xs i (number_at bs i))) 0 (length xs) k k 0 lt (omega arith)))
+      (next_until_is (length xs) k lt (omega arith))
 
   pub begin_from_is : (from k : ℕ) → from ≤ k → IsBeginFrom xs bs from k (begin_from xs bs from k)
   begin_from_is from k low = by (behind (prev_below bs k (number_at xs k))) (behind_searched bs (number_at xs k) k)
