@@ -6,9 +6,13 @@ use Rattle.std.proofs.lemmas.Bool.Decides.{nat_tests}
 use Rattle.std.proofs.lemmas.List.FromFn.{fill_by_all, length-map-range_with_len}
 use Rattle.source_meaning.specs.declared.kinds.Kind.{Kind}
 use Rattle.ast_rows.specs.NodeRows.{token_word, token_of}
+use Rattle.word_monoid.specs.Folds.{prefixes}
+use Rattle.word_monoid.specs.Instances.{count as adds}
 use Rattle.key_groups.specs.Grouped.{number_at, equal_before}
+use Rattle.key_groups.specs.Parents.{AreParents}
 use Rattle.nearest_all.specs.Nearest.{nexts}
 use Rattle.near_levels.proofs.Answered.{parents_answered}
+use Rattle.near_levels.proofs.Spans.{spans_nest}
 use Rattle.row_laws.specs.Marks.{Mark}
 use Rattle.row_laws.specs.Faults.{number_or}
 use Rattle.row_laws.specs.Faulted.{faults_at, fault_keys, key_of}
@@ -19,10 +23,10 @@ use Rattle.tree_passes.specs.Columns.{AreColumns, numbers_of}
 use Rattle.tree_passes.specs.RowFaults.{fault_word, kind_at}
 use Rattle.tree_passes.specs.TreeColumns.{AreRowColumns, AreSmall, IsSmall}
 use Rattle.tree_passes.specs.Reading.{low_of, number_in, parent_of, place_of}
-use Rattle.tree_passes.proofs.Ordered.{counts_before}
 use Rattle.tree_passes.proofs.Ranges.{same_below, value_at, many_of}
 use Rattle.tree_passes.proofs.RowColumns.{parents_upward}
 use Rattle.tree_passes.proofs.RowFaults.{word_is}
+use Rattle.tree_passes.proofs.Siblings.{place_is}
 
 -- ---- where subtrees begin
 pub lows_are : (ms : List Mark) (sizes lows : List ℕ) → length ms ≤ 536870914 → sizes ≡ map (λ k. (mark_at ms k).size) (numbers_of ms) → lows ≡ map (low_of sizes) (range_with_len 0 (length sizes)) → lows ≡ lows_from 0 ms
@@ -62,12 +66,13 @@ parents_inside lows parents e i h =
     omega arith
 
 -- ---- places
-pub places_are : (lows parents ordinals places : List ℕ) → parents ≡ parents_by lows → ordinals ≡ map (λ i. equal_before parents i (number_at parents i)) (range_with_len 0 (length parents)) → places ≡ map (place_of parents ordinals) (range_with_len 0 (length parents)) → places ≡ map (place_at parents) (range_with_len 0 (length lows))
-places_are lows parents ordinals places e o p =
+pub places_are : (lows parents children closed places : List ℕ) → length lows ≤ 536870914 → parents ≡ parents_by lows → children ≡ map (equal_before parents (length parents)) (range_with_len 0 (length parents)) → closed ≡ prefixes adds children → places ≡ map (place_of parents closed) (range_with_len 0 (length parents)) → places ≡ map (place_at parents) (range_with_len 0 (length lows))
+places_are lows parents children closed places few e o s p =
+    let n : length parents ≡ length lows = many_of (parent_at lows) (length lows) parents e in
     p
-    ∙ same_below (place_of parents ordinals) (place_at parents) (length parents)
-    (λ k h. ap (λ (z : ℕ). if get_or parents k 0 == k then 0 else z) (value_at (λ i. equal_before parents i (number_at parents i)) 0 (length parents) ordinals k o h ∙ counts_before (get_or parents k 0) parents k))
-    ∙ ap (λ (n : ℕ). map (place_at parents) (range_with_len 0 n)) (many_of (parent_at lows) (length lows) parents e)
+    ∙ same_below (place_of parents closed) (place_at parents) (length parents)
+    (place_is parents children closed o s (omega arith) (subst AreParents (sym e) (spans_nest lows)) (parents_inside lows parents e))
+    ∙ ap (λ (n : ℕ). map (place_at parents) (range_with_len 0 n)) n
 
 -- ---- words
 word_back : (o : Option ℕ) → IsSmall o → token_of (token_word o) ≡ o
@@ -81,9 +86,9 @@ word_back (Some t) h = by (nat_eq t 4294967295) other
     by true e = absurd (cc)
     by false e = refl
 
-pub laid_are : (ms : List Mark) (kinds : List Kind) (sizes tokens lows next parents ordinals places : List ℕ) → length ms ≤ 536870914 → AreRowColumns ms kinds sizes tokens → AreSmall ms →
-    lows ≡ map (low_of sizes) (range_with_len 0 (length sizes)) → next ≡ nexts lows lows → parents ≡ map (parent_of next) (range_with_len 0 (length next)) → ordinals ≡ map (λ i. equal_before parents i (number_at parents i)) (range_with_len 0 (length parents)) → places ≡ map (place_of parents ordinals) (range_with_len 0 (length parents)) → AreColumns ms kinds parents tokens places
-laid_are ms kinds sizes tokens lows next parents ordinals places few known small a b e o p =
+pub laid_are : (ms : List Mark) (kinds : List Kind) (sizes tokens lows next parents children closed places : List ℕ) → length ms ≤ 536870914 → AreRowColumns ms kinds sizes tokens → AreSmall ms →
+    lows ≡ map (low_of sizes) (range_with_len 0 (length sizes)) → next ≡ nexts lows lows → parents ≡ map (parent_of next) (range_with_len 0 (length next)) → children ≡ map (equal_before parents (length parents)) (range_with_len 0 (length parents)) → closed ≡ prefixes adds children → places ≡ map (place_of parents closed) (range_with_len 0 (length parents)) → AreColumns ms kinds parents tokens places
+laid_are ms kinds sizes tokens lows next parents children closed places few known small a b e o c p =
     let l : lows ≡ lows_from 0 ms = lows_are ms sizes lows few known.sizes_are a in
     let q : parents ≡ parents_by lows = parents_are lows next parents b e in
     let s : parents ≡ parents_by (lows_from 0 ms) = q ∙ ap parents_by l in
@@ -91,7 +96,7 @@ laid_are ms kinds sizes tokens lows next parents ordinals places few known small
       kinds_are = known.kinds_are;
       parents_are = s;
       tokens_are = known.tokens_are;
-      places_are = places_are lows parents ordinals places q o p ∙ ap (λ (n : ℕ). map (place_at parents) (range_with_len 0 n)) (ap length l ∙ lows_many 0 ms) ∙ ap (λ qs. map (place_at qs) (numbers_of ms)) s;
+      places_are = places_are lows parents children closed places (let m = ap length l ∙ lows_many 0 ms in omega arith) q o c p ∙ ap (λ (n : ℕ). map (place_at parents) (range_with_len 0 n)) (ap length l ∙ lows_many 0 ms) ∙ ap (λ qs. map (place_at qs) (numbers_of ms)) s;
       words = λ k h. word_back (settled_at ms k) (small k h);
     }
 

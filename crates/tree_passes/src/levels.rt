@@ -13,7 +13,8 @@ ghost use Rattle.tree_passes.specs.LineColumns.{AreNear, AreNumbers};
 use crate::columns::{production, sum};
 use crate::lines::{level, open_count};
 use crate::numbers::kids;
-use nearest_all::{Nearest, all_nearest, odd_below};
+use near_stretches::all_nearest;
+use nearest_all::{Nearest, odd_below};
 use par_passes::{Lift, Passes};
 use std::alloc::AllocError;
 use word_monoid::Count;
@@ -86,5 +87,5 @@ pub(crate) fn near(crew: &impl Passes, numbers: &[u16]) -> Result<Nearest, Alloc
 {
     let levels = levels(crew, numbers)?;
     let bounds = bounds(crew, levels.as_slice())?;
-    all_nearest(crew.alloc(), levels.as_slice(), bounds.as_slice())
+    all_nearest(crew, levels.as_slice(), bounds.as_slice())
 }

@@ -12,7 +12,7 @@ ghost use Rattle.tree_passes.specs.Orders.{AreClosed, AreMade, IsOrder, IsPlaced
 
 use crate::columns::{number, sum};
 use crate::joining::makers;
-use key_groups::counted;
+use key_passes::counted;
 use par_passes::{Lift, Passes};
 use std::alloc::AllocError;
 use word_monoid::Count;
@@ -39,8 +39,8 @@ impl Lift<u32, u64> for Wide {
     }
 }
 
-// How many rows are closed before each place, and up to the end.
-fn closed_sums(crew: &impl Passes, counts: &[u32]) -> Result<Vec<u64>, AllocError>
+/// How many rows are closed before each place, and up to the end, from how many are closed at each.
+pub(crate) fn closed_sums(crew: &impl Passes, counts: &[u32]) -> Result<Vec<u64>, AllocError>
     requires few { length counts.now ≤ 536870914 }
     ensures { IfOk result (λ v. v.items ≡ prefixes count counts.now) }
 {
@@ -104,7 +104,7 @@ pub(crate) fn standing(
     ensures { IfOk result (λ v. (ps : List Production) → length ps ≤ 536870913 → makers.now ≡ makers_of ps → AreClosed ps rows.now next.now → v.items ≡ map (standing_at ps) makers.now) }
 {
     let keys = close_keys(crew, makers, next)?;
-    let counts = counted(crew.alloc(), keys.as_slice(), next.len())?;
+    let counts = counted(crew, keys.as_slice(), next.len())?;
     let closed = closed_sums(crew, counts.as_slice())?;
     standing_all(crew, makers, rows, closed.as_slice(), next)
 }

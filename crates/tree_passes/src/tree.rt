@@ -21,12 +21,13 @@ use crate::fault::ShapeFault;
 use crate::joining::{joins_all, made_all, meets_all, row_sums};
 use crate::laid::lay;
 use crate::levels::near;
-use crate::ordering::order;
+use crate::ordering::{closed_sums, order};
 use crate::reading::{owned_all, read_sums, reads_all};
 use crate::row_columns::{kinds_all, sizes_all, words_all};
 use ast_rows::{Rows, Tokens};
-use key_groups::ordinals;
-use nearest_all::{Nearest, all_nearest};
+use key_passes::counted;
+use near_stretches::all_nearest;
+use nearest_all::Nearest;
 use par_passes::Passes;
 use source_meaning::{Kind, Terminal};
 use std::alloc::AllocError;
@@ -144,10 +145,11 @@ fn lay_rows(crew: &impl Passes, columns: Columns) -> Result<Rows, AllocError>
     ensures { IfOk result (λ v. (ms : List Mark) → AreRowColumns ms columns.kinds.items columns.sizes.items columns.tokens.items → AreSmall ms → v ≡ map (row_by_lists ms) (numbers_of ms)) }
 {
     let lows = lows_all(crew, columns.sizes.as_slice())?;
-    let nearest = all_nearest(crew.alloc(), lows.as_slice(), lows.as_slice())?;
+    let nearest = all_nearest(crew, lows.as_slice(), lows.as_slice())?;
     let parents = parents_all(crew, nearest.next.as_slice())?;
-    let ordinals = ordinals(crew.alloc(), parents.as_slice(), parents.len())?;
-    let places = places_all(crew, parents.as_slice(), ordinals.as_slice())?;
+    let children = counted(crew, parents.as_slice(), parents.len())?;
+    let closed = closed_sums(crew, children.as_slice())?;
+    let places = places_all(crew, parents.as_slice(), closed.as_slice())?;
     Ok(lay(columns.kinds, parents, columns.tokens, places))
 }
 

@@ -9,12 +9,12 @@ bounds-requires-clause-few g c κs within =
     levels_few c.requires.parsed.0 c.args.numbers.now c.as_slice.result.now c.requires.parsed.1 c.requires.few (c.as_slice.ensures.value ∙ c.in_ok-levels.ensures c.requires.parsed.0 c.requires.parsed.1)
 
 pub all_nearest-requires-clause-few : goal.all_nearest-requires-clause-few
-all_nearest-requires-clause-few g c =
+all_nearest-requires-clause-few g c κs within =
     let l = levels_few c.requires.parsed.0 c.args.numbers.now c.as_slice-2.result.now c.requires.parsed.1 c.requires.few (c.as_slice-2.ensures.value ∙ c.in_ok-levels.ensures c.requires.parsed.0 c.requires.parsed.1) in
     omega arith
 
 pub all_nearest-requires-clause-nested : goal.all_nearest-requires-clause-nested
-all_nearest-requires-clause-nested g c =
+all_nearest-requires-clause-nested g c κs within =
     levels_nested c.requires.parsed.0 c.as_slice-2.result.now c.as_slice-3.result.now
     (c.as_slice-2.ensures.value ∙ c.in_ok-levels.ensures c.requires.parsed.0 c.requires.parsed.1)
     (c.as_slice-3.ensures.value ∙ c.in_ok-bounds.ensures ∙ ap (map odd_below) (c.as_slice.ensures.value ∙ sym c.as_slice-2.ensures.value))

@@ -7,7 +7,7 @@ use Rattle.tree_passes.proofs.Ordered.{stands_by}
 use Rattle.tree_passes.proofs.ordering.standing.Goals as goal
 
 pub counted-requires-clause-small : goal.counted-requires-clause-small
-counted-requires-clause-small g c = λ i l.
+counted-requires-clause-small g c κs within = λ i l.
     let keys = c.as_slice.ensures.value ∙ c.in_ok-keys.ensures in
     let n : length c.as_slice.result.now ≡ length c.args.makers.now = ap length keys ∙ length-map c.args.makers.now (λ i. get_or c.args.next.now i 0) in
     let v = ap (λ l. get_or l i 0) keys ∙ get_or-map (λ i. get_or c.args.next.now i 0) c.args.makers.now i 0 0 (omega arith) in
