@@ -12,6 +12,7 @@ mod position;
 mod program;
 mod reading;
 mod response;
+mod sharing;
 mod status;
 mod table;
 mod writing;

@@ -8,6 +8,7 @@ ghost use Rattle.pareas_core.specs.Causes.{Rose};
 use crate::ends::{ByteIn, ByteOut};
 use crate::reading::{ReadError, read_up_to};
 use crate::response::{deliver, respond};
+use crate::sharing::plan_for;
 use crate::status::Status;
 use crate::writing::write_all;
 use chunk_seats::Gate;
@@ -92,7 +93,7 @@ pub fn pareas<R: Threads + Sync, I: ByteIn, O: ByteOut, E: ByteOut, G: Gate>(
     let crew = Workers {
         runtime: rt,
         alloc,
-        plan,
+        plan: plan_for(plan, command, bytes.len()),
         gate,
     };
     let Ok(response) = respond(&crew, command, &bytes) else {

@@ -42,7 +42,10 @@ pub(crate) fn around(
     middle: &[u8],
     behind: &[u8],
 ) -> Result<Vec<u8>, AllocError> {
-    let mut text = b"fn f(var a: int): int { return a; } fn main(): int { var x: int = 1; return ".to_vec(alloc)?;
+    let mut text =
+        b"fn f(var a: int): int { return a; } fn main(): int { var x: int = 1; return ".to_vec(
+            alloc,
+        )?;
     repeat(&mut text, before, count)?;
     text.extend_from_slice(middle)?;
     repeat(&mut text, behind, count)?;

@@ -1,0 +1,35 @@
+// How the work of a command is shared out.
+
+use chunk_seats::Plan;
+use command_line::Command;
+
+/// The plan of a command line that names neither workers nor a chunk.
+const DEFAULT_WORKERS: u32 = 4;
+
+const DEFAULT_CHUNK: u32 = 1024;
+
+/// By default a text of fewer bytes is compiled by one worker: to start threads for each pass would take longer than they save.
+const SMALL_TEXT: usize = 131_072;
+
+/// About so many bytes has each function of a drill's text.
+const DRILL_FUNCTION: usize = 122;
+
+// How many bytes the text has that is compiled, for a drill about so many.
+fn text_size(command: Command, bytes: usize) -> usize {
+    match command {
+        Command::Drill { functions, .. } => (functions as usize).saturating_mul(DRILL_FUNCTION),
+        _ => bytes,
+    }
+}
+
+/// The plan for a command that has read so many bytes: the one that the words name, but one worker for a small text by default.
+pub(crate) fn plan_for(plan: Plan, command: Command, bytes: usize) -> Plan {
+    let is_default = plan.workers == DEFAULT_WORKERS && plan.chunk == DEFAULT_CHUNK;
+    if is_default && text_size(command, bytes) < SMALL_TEXT {
+        return Plan {
+            workers: 1,
+            chunk: plan.chunk,
+        };
+    }
+    plan
+}
