@@ -5,7 +5,7 @@ use Rattle.std.proofs.lemmas.Bool.{cases_lt}
 use Rattle.std.proofs.lemmas.List.{length-map, get_or-map, get_or_past}
 use Rattle.std.proofs.lemmas.List.FromFn.{length-map-range_with_len, get_or-map-range_with_len}
 use Rattle.source_meaning.specs.Ast.{Program}
-use Rattle.source_meaning.specs.Rows.{Row, post}
+use Rattle.source_meaning.specs.Rows.{post}
 use Rattle.row_rules.specs.Alignment.{IsNamedProgram}
 use Rattle.row_rules.proofs.Shaped.{program_named}
 use Rattle.rv_code.specs.Code.{words}

@@ -1,8 +1,8 @@
--- The worked programs have code.
-use Rattle.std.proofs.Common.{◌≡◌, inl, inr, ℕ, zero, suc, ◌<◌, ◌≤◌, List, [], ◌∷◌, length, map, get_or, Option, Some, None, refl, sym, ap, subst, ◌∙◌, arith}
+-- The worked program that counts has code.
+use Rattle.std.proofs.Common.{◌≡◌, inl, inr, ℕ, zero, suc, ◌<◌, ◌≤◌, length, map, get_or, Option, Some, None, refl, subst, arith}
 use Rattle.std.specs.Prelude.{codes}
 use Rattle.std.proofs.lemmas.Bool.{cases_lt}
-use Rattle.source_meaning.specs.Ast.{Expr, num, truth, name, call, unary, binary, and, or, assign, Args, Program}
+use Rattle.source_meaning.specs.Ast.{name, call, Program}
 use Rattle.source_meaning.specs.Rows.{post}
 use Rattle.source_meaning.specs.Frames.{frame, depths}
 use Rattle.source_meaning.specs.Scope.{Part, an_expr, Variable, Scope, sites, variable_of, function_of}
@@ -13,7 +13,7 @@ use Rattle.code_rules.specs.Reach.{IsSmall}
 use Rattle.code_rules.specs.RowTables.{frame_in}
 use Rattle.ast_rows.specs.NameRows.{NameRows}
 use Rattle.rv_emit.specs.Compilable.{IsCompilable}
-use Rattle.rv_emit.specs.Worked.{seven, seven_names, counting, counting_names}
+use Rattle.rv_emit.specs.Worked.{counting, counting_names}
 
 -- something of each number below n
 abbrev Each : (ℕ → Type 0) → ℕ → Type 0
@@ -60,25 +60,25 @@ module _ (p : Program) (names : NameRows) where
     starts = a.starts;
   }
 
-pub seven_compilable : IsCompilable seven (post seven) seven_names (depths seven) (map (λ f. frame f) seven)
-seven_compilable = record {
+pub counting_compilable : IsCompilable counting (post counting) counting_names (depths counting) (map (λ f. frame f) counting)
+counting_compilable = record {
   rows_are = refl;
   shaped = refl;
   named = record {
-    names = names_by seven seven_names (record {
-      meant = (((((tt, tt), tt), tt), tt), tt);
-      within = (((((tt, tt), tt), tt), tt), tt);
-      declared = (((((tt, tt), tt), tt), tt), tt);
+    names = names_by counting counting_names (record {
+      meant = ((((((((((((((((((((((((((((((tt, tt), refl), tt), tt), refl), refl), tt), tt), tt), tt), tt), tt), refl), tt), tt), tt), tt), refl), tt), tt), tt), tt), tt), tt), tt), tt), tt), tt), tt), tt);
+      within = ((((((((((((((((((((((((((((((tt, tt), omega arith), tt), tt), omega arith), omega arith), tt), tt), tt), tt), tt), tt), omega arith), tt), tt), tt), tt), omega arith), tt), tt), tt), tt), tt), tt), tt), tt), tt), tt), tt), tt);
+      declared = ((((((((((((((((((((((((((((((tt, refl), tt), tt), tt), tt), tt), tt), tt), tt), tt), tt), tt), tt), tt), tt), tt), tt), tt), tt), tt), tt), tt), tt), tt), tt), tt), tt), tt), tt), tt);
       starts = (omega arith, refl);
     });
-    end = 11;
+    end = 53;
     faultless = refl;
   };
   meant_many = refl;
   numbers_many = refl;
   typed = refl;
-  small = λ k lt. each_at (λ k. IsSmall (kind_at seven k)) 5 k (((((tt, omega arith), tt), tt), tt), tt) lt;
-  framed = λ j lt. each_at (λ j. (frame_in seven j).bytes ≤ 2032) 1 j (tt, omega arith) lt;
+  small = λ k lt. each_at (λ k. IsSmall (kind_at counting k)) 30 k ((((((((((((((((((((((((((((((tt, tt), tt), omega arith), tt), tt), tt), omega arith), tt), tt), tt), tt), tt), tt), tt), tt), tt), omega arith), tt), omega arith), tt), omega arith), tt), tt), omega arith), tt), tt), tt), tt), tt), tt) lt;
+  framed = λ j lt. each_at (λ j. (frame_in counting j).bytes ≤ 2032) 2 j ((tt, omega arith), omega arith) lt;
   depths_are = refl;
   frames_are = refl;
 }

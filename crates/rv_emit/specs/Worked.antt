@@ -9,16 +9,6 @@ use Rattle.ast_rows.specs.NameRows.{NameRows, row_of_word}
 abbrev pub seven : Program
 seven = record { at = 1; name = codes "main"; params = []; type = Int; body = block 6 (stmt (return 7 (num 8 7)) no_stmts) } ∷ []
 
--- what rows mean, as words, where no row declares another variable than its function's first one
-abbrev pub meant_by_words : List ℕ → ℕ → NameRows
-meant_by_words words main = record { meant = map row_of_word words; numbers = map (λ w. 0) words; main = main }
-
-abbrev pub none : ℕ
-none = 4294967295
-
-abbrev pub seven_names : NameRows
-seven_names = meant_by_words (none ∷ none ∷ none ∷ none ∷ none ∷ []) 3
-
 -- fn f(var a: int): int { while a < 2 { a = a + 1; } return a; }
 -- fn main(): int { if f[1] == 2 { return 1; } else { return 0; } }
 abbrev pub counting : Program
@@ -40,9 +30,14 @@ counting =
     }
     ∷ []
 
+abbrev pub none : ℕ
+none = 4294967295
+
+-- the row that each row means, as a word; no row declares another variable than its function's first one
+abbrev pub counting_words : List ℕ
+counting_words =
+    none ∷ 0 ∷ none ∷ none ∷ 0 ∷ 0 ∷ none ∷ none ∷ none ∷ none ∷ none ∷ none ∷ 0 ∷ none ∷ none ∷ none
+    ∷ none ∷ 15 ∷ none ∷ none ∷ none ∷ none ∷ none ∷ none ∷ none ∷ none ∷ none ∷ none ∷ none ∷ none ∷ []
+
 abbrev pub counting_names : NameRows
-counting_names =
-    meant_by_words
-    (none ∷ 0 ∷ none ∷ none ∷ 0 ∷ 0 ∷ none ∷ none ∷ none ∷ none ∷ none ∷ none ∷ 0 ∷ none ∷ none ∷ none
-    ∷ none ∷ 15 ∷ none ∷ none ∷ none ∷ none ∷ none ∷ none ∷ none ∷ none ∷ none ∷ none ∷ none ∷ none ∷ [])
-    28
+counting_names = record { meant = map row_of_word counting_words; numbers = map (λ w. 0) counting_words; main = 28 }

@@ -1,6 +1,5 @@
 //! The children that are kept at their parents.
-ghost use Rattle.std.specs.Prelude.{◌≡◌, ℕ, ◌+◌, ◌<◌, ◌≤◌, ◌^◌, min, All, length, map, slice_index_or, IfOk};
-ghost use Rattle.std.specs.List.{range_with_len};
+ghost use Rattle.std.specs.Prelude.{◌≡◌, ℕ, ◌<◌, ◌≤◌, ◌^◌, All, length, map, slice_index_or, IfOk};
 ghost use Rattle.scatter_rows.specs.Scattered.{AreDistinct};
 ghost use Rattle.rv_select.specs.Layout.{is_kept as is_kept_child, kept_from};
 ghost use Rattle.rv_emit.specs.OfColumns.{rows_of, above_of, begin_step_of, begins_of, kept_of, kept_places_of, kept_values_of, AreChildren};

@@ -22,3 +22,6 @@ pub use piece_sizes::sizes;
 pub use program::code;
 pub use unit::code_columns;
 pub use words::emit;
+
+#[cfg(test)]
+mod tests;

@@ -1,5 +1,5 @@
 //! The columns that the passes of the code take, from what the passes before have found of a program.
-ghost use Rattle.std.specs.Prelude.{◌≡◌, ◌≤◌, ◌^◌, length, IfOk};
+ghost use Rattle.std.specs.Prelude.{◌≤◌, ◌^◌, length, IfOk};
 ghost use Rattle.source_meaning.specs.Ast.{Program as Source};
 ghost use Rattle.rv_emit.specs.Coded.{AreCodeColumns};
 ghost use Rattle.rv_emit.specs.Compilable.{IsCompilable};

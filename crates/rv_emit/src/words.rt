@@ -1,11 +1,11 @@
 //! The words of a program, from the places of its pieces.
-ghost use Rattle.std.specs.Prelude.{◌≡◌, ℕ, ◌-◌, ◌*◌, ◌<◌, ◌≤◌, ◌^◌, length, Err, IfOk, slice_index_or};
+ghost use Rattle.std.specs.Prelude.{◌≡◌, ℕ, ◌-◌, ◌*◌, ◌<◌, ◌≤◌, length, Err, IfOk, slice_index_or};
 ghost use Rattle.rv_code.specs.Code.{words as words_of};
 ghost use Rattle.source_meaning.specs.Ast.{Program as Source};
 ghost use Rattle.code_rules.specs.Pieces.{places as places_of};
 ghost use Rattle.rv_emit.specs.declared.fault.CodeError.TheVariants.{Large};
 ghost use Rattle.rv_emit.specs.Coded.{AreCodeColumns};
-ghost use Rattle.rv_emit.specs.OfColumns.{AreAccepted, AreLaidOf, words_many_of};
+ghost use Rattle.rv_emit.specs.OfColumns.{AreAccepted, words_many_of};
 
 use crate::columns::CodeColumns;
 use crate::fault::CodeError;

@@ -1,11 +1,10 @@
 //! The words of a program, from columns of its rows and of places.
-ghost use Rattle.std.specs.Prelude.{◌≡◌, ℕ, ◌+◌, ◌-◌, ◌*◌, ◌<◌, ◌≤◌, ◌^◌, ◌++◌, length, map, min, flat_map, IfOk, OnOk};
+ghost use Rattle.std.specs.Prelude.{◌≡◌, ◌+◌, ◌-◌, ◌*◌, ◌<◌, ◌≤◌, ◌^◌, ◌++◌, length, min, flat_map, IfOk, OnOk};
 ghost use Rattle.std.specs.List.{range_with_len};
 ghost use Rattle.chunk_seats.specs.Chunks.{chunk_of, chunk_count};
-ghost use Rattle.rv_isa.specs.Encoding.{word};
 ghost use Rattle.rv_code.specs.Code.{words as words_of};
 ghost use Rattle.source_meaning.specs.Ast.{Program as Source};
-ghost use Rattle.rv_emit.specs.OfColumns.{rows_of, head_of, row_words, part_of, AreReady, AreAccepted, AreLaidOf};
+ghost use Rattle.rv_emit.specs.OfColumns.{rows_of, row_words, part_of, AreReady, AreAccepted, AreLaidOf};
 
 use chunk_seats::Gate;
 use par_passes::Passes;

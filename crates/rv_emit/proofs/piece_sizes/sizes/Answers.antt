@@ -1,4 +1,4 @@
-use Rattle.std.proofs.Common.{◌∙◌, arith}
+use Rattle.std.proofs.Common.{◌∙◌}
 use Rattle.par_passes.proofs.Calling.{if_ok}
 use Rattle.rv_emit.proofs.Sized.{few_rows, sizes_are}
 use Rattle.rv_emit.proofs.piece_sizes.sizes.Goals as goal

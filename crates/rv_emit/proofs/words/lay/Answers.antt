@@ -1,4 +1,4 @@
-use Rattle.std.proofs.Common.{◌≡◌, ℕ, ◌≤◌, sym, subst, ◌∙◌, arith}
+use Rattle.std.proofs.Common.{ℕ, ◌≤◌, sym, subst}
 use Rattle.par_passes.proofs.Calling.{if_ok}
 use Rattle.rv_emit.specs.OfColumns.{words_many_of, AreChildren, AreLaidOf}
 use Rattle.rv_emit.proofs.Ready.{kept_apart, kept_inside, kept_small, laid_by, ready_by}
