@@ -1,5 +1,6 @@
 //! Items by their keys, for every kind of plan.
-ghost use Rattle.std.specs.Prelude.{◌≤◌, length};
+ghost use Rattle.std.specs.Prelude.{◌≡◌, ℕ, ◌<◌, ◌≤◌, length, IfOk};
+ghost use Rattle.key_groups.specs.Grouped.{number_at};
 
 use super::*;
 use chunk_seats::{Gate, OpenGate, Plan};
@@ -10,24 +11,47 @@ use std::sync::atomic::{AtomicU64, Ordering};
 use std::test::*;
 use std::thread::Threads;
 
-// Keys of one byte, by the crew and by one worker.
-fn both(crew: &impl Passes, keys: &[u8]) -> Result<[Vec<u32>; 2], AllocError>
-    requires { length keys.now ≤ 65536 }
+// Keys of one byte.
+fn keys_of(crew: &impl Passes, bytes: &[u8]) -> Result<Vec<u32>, AllocError>
+    requires { length bytes.now ≤ 65536 }
+    ensures many { IfOk result (λ v. length v.items ≡ length bytes.now) }
+    ensures small { IfOk result (λ v. (i : ℕ) → i < length v.items → number_at v.items i < 256) }
 {
-    let keys: Vec<u32> = keys.iter().map(|x| u32::from(*x)).collect(crew.alloc())?;
+    bytes.iter().map(|x| u32::from(*x)).collect(crew.alloc())
+}
+
+// Their counts, by the crew and by one worker.
+fn counts(crew: &impl Passes, bytes: &[u8]) -> Result<[Vec<u32>; 2], AllocError>
+    requires { length bytes.now ≤ 65536 }
+{
+    let keys = keys_of(crew, bytes)?;
     Ok([
         counted(crew, &keys, 256)?,
         key_groups::counted(crew.alloc(), &keys, 256)?,
     ])
 }
 
-// Both have the counts of keys, and no more.
-fn counts<R: Threads + Abort + Sync, G: Gate>(rt: &R, crew: &Workers<R, G>) -> Result<(), Fail> {
-    for counts in both(crew, &[2, 0, 255, 2, 1, 0, 2, 5, 255])? {
+// The items by them, by the crew and by one worker.
+fn groups(crew: &impl Passes, bytes: &[u8]) -> Result<[Vec<u32>; 2], AllocError>
+    requires { length bytes.now ≤ 65536 }
+{
+    let keys = keys_of(crew, bytes)?;
+    Ok([
+        grouped(crew, &keys, 256)?,
+        key_groups::grouped(crew.alloc(), &keys, 256)?,
+    ])
+}
+
+const KEYS: [u8; 9] = [2, 0, 255, 2, 1, 0, 2, 5, 255];
+
+fn by_key<R: Threads + Abort + Sync, G: Gate>(rt: &R, crew: &Workers<R, G>) -> Result<(), Fail> {
+    for counts in counts(crew, &KEYS)? {
         assert!(rt; counts.as_slice().starts_with(&[2, 1, 3, 0, 0, 1, 0]));
         assert!(rt; counts.as_slice().ends_with(&[0, 2]));
         assert_eq!(rt; counts.len(), 256);
-        assert_eq!(rt; counts.iter().filter(|x| **x > 0).count(), 5);
+    }
+    for items in groups(crew, &KEYS)? {
+        assert!(rt; items.as_slice() == [1, 5, 4, 0, 3, 6, 7, 2, 8].as_slice());
     }
     Ok(())
 }
@@ -42,7 +66,7 @@ fn the_same_for_every_plan(rt: HostRuntime) -> Result<(), Fail> {
                 plan: Plan::new(workers, chunk).ok_or("in range")?,
                 gate: &OpenGate,
             };
-            counts(&rt, &crew)?;
+            by_key(&rt, &crew)?;
         }
     }
     Ok(())
@@ -88,7 +112,7 @@ fn two_workers_meet(rt: HostRuntime) -> Result<(), Fail> {
         plan: Plan::new(2, 1).ok_or("in range")?,
         gate: &gate,
     };
-    counts(&rt, &crew)?;
+    by_key(&rt, &crew)?;
     // somebody drew range 0, and nobody gave up
     assert!(rt; gate.met.load(Ordering::SeqCst) > 0);
     assert_eq!(rt; gate.alone.load(Ordering::SeqCst), 0);
