@@ -1,5 +1,4 @@
-use Rattle.std.proofs.Common.{◌≡◌, ℕ, List, Option, Some, length, map, refl, sym, ap, subst, ◌∙◌}
-use Rattle.source_meaning.specs.declared.kinds.Kind.{Kind}
+use Rattle.std.proofs.Common.{◌≡◌, ℕ, List, map, sym, ap, subst, ◌∙◌}
 use Rattle.source_meaning.specs.Rows.{Row, post}
 use Rattle.source_meaning.specs.Frames.{Frame}
 use Rattle.source_meaning.specs.Frames.{depths, frame}
