@@ -1,7 +1,6 @@
 -- A fault's line, as the formatter writes it.
-use Rattle.std.proofs.Common.{◌≡◌, ◌∙◌, ◌-◌, ◌++◌, ℕ, false, refl, ap, ap₂, arith, List, [], Some, length, replicate, append-nil, append_assoc, sym}
-use Rattle.std.specs.Prelude.{option_map}
-use Rattle.std.specs.Fmt.{digits, digits_output, styled_digits_output, format_spec, padded_integral, char_count, take_chars}
+use Rattle.std.proofs.Common.{◌≡◌, ◌∙◌, ◌-◌, ◌++◌, ℕ, false, ap, ap₂, arith, List, [], Some, length, replicate, append-nil, append_assoc, sym}
+use Rattle.std.specs.Fmt.{digits, digits_output, styled_digits_output, format_spec, padded_integral, char_count}
 use Rattle.pareas_core.specs.Output.{hexadecimal}
 
 minus_none : (n : ℕ) → n - 0 - 0 ≡ n

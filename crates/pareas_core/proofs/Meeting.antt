@@ -1,5 +1,5 @@
 -- From what was read, answered and delivered to what the program's contract says.
-use Rattle.std.proofs.Common.{◌≡◌, ℕ, zero, suc, ◌+◌, ◌⊎◌, true, false, inl, inr, arith, List, [], ◌∷◌, ◌++◌, length, take, drop, Option, Some, None, Result, Ok, Err, refl, sym, ap, ◌∙◌, subst, codes}
+use Rattle.std.proofs.Common.{◌≡◌, ℕ, zero, suc, ◌+◌, ◌⊎◌, true, false, inl, inr, arith, List, [], ◌∷◌, ◌++◌, length, take, drop, Option, Some, None, Result, Ok, Err, refl, sym, ap, ◌∙◌, subst}
 use Rattle.std.proofs.lemmas.List.{append-nil}
 use Rattle.std.specs.Io.KnownBytes.{Appends}
 use Rattle.drill_source.specs.Drill.{drill_text}
@@ -15,8 +15,8 @@ use Rattle.command_line.specs.declared.command.Command.TheVariants.{Build, Run, 
 use Rattle.elf_file.specs.declared.fault.ElfFault.{ElfFault}
 use Rattle.rv32_emul.specs.Machine.{Outcome, Exits, Faults, More, machine}
 use Rattle.simulation.specs.Behaves.{Behaves, IsFaulty, Overruns}
-use Rattle.grammar_file.specs.Grammar.{Grammar, IsWellFormed}
-use Rattle.grammar_file.specs.Spelling.{Spells, IsReduced}
+use Rattle.grammar_file.specs.Grammar.{Grammar}
+use Rattle.grammar_file.specs.Spelling.{Spells}
 use Rattle.grammar_file.specs.declared.file.GrammarFault.{GrammarFault}
 use Rattle.grammar_file.specs.FaultLines.{line_of_fault as line_of_grammar_fault}
 use Rattle.llp_tables.specs.Predict.{IsLl1}

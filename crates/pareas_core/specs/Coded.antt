@@ -1,7 +1,6 @@
 -- What the code of a source is made of.
-use Rattle.std.specs.Prelude.{◌≡◌, ℕ, ◌<◌, ◌≤◌, List, [], length, map, None, nat_lt, slice_index_or}
+use Rattle.std.specs.Prelude.{◌≡◌, ℕ, List, map, None, nat_lt}
 use Rattle.std.specs.List.{find}
-use Rattle.source_meaning.specs.Ast.{Program}
 use Rattle.source_meaning.specs.Grammar.{Tree, Prog, ast}
 use Rattle.source_meaning.specs.Frames.{Frame, frame, depths}
 use Rattle.verdict.specs.Verdict.{most_frame}

@@ -1,4 +1,4 @@
-use Rattle.std.proofs.Common.{◌≤◌, length, arith}
+use Rattle.std.proofs.Common.{arith}
 use Rattle.front_end.proofs.Counting.{tree_few}
 use Rattle.pareas_core.proofs.code.code.Goals as goal
 

@@ -1,9 +1,9 @@
-use Rattle.std.proofs.Common.{◌≡◌, ◌∙◌, ◌*◌, ◌≤◌, ◌<◌, ℕ, Err, length, map, sym, ap, subst, arith}
+use Rattle.std.proofs.Common.{◌≡◌, ◌∙◌, ◌*◌, ◌≤◌, ◌<◌, ℕ, Err, length, sym, ap, subst, arith}
 use Rattle.std.proofs.lemmas.List.{length-map}
 use Rattle.source_meaning.specs.Grammar.{ast}
 use Rattle.rv_isa.specs.Encoding.{word}
 use Rattle.rv_code.specs.Code.{instructions, words}
-use Rattle.verdict.specs.Verdict.{Verdict, IsVerdict, Limited}
+use Rattle.verdict.specs.Verdict.{IsVerdict, Limited}
 use Rattle.pareas_core.proofs.Large.{compilable}
 use Rattle.pareas_core.proofs.code.emitted.Goals as goal
 

@@ -1,4 +1,4 @@
-use Rattle.std.proofs.Common.{sym, subst, ap, ◌≡◌, ◌∙◌, ◌+◌, Some, Err, refl, ℕ, map, string_bytes}
+use Rattle.std.proofs.Common.{sym, subst, ap, ◌≡◌, ◌∙◌, Some, Err, refl, map, string_bytes}
 use Rattle.std.specs.Prelude.{option_map}
 use Rattle.command_line.specs.Words.{Asked, command_of}
 use Rattle.pareas_core.specs.Headline.{HasRead}

@@ -1,4 +1,4 @@
-use Rattle.std.proofs.Common.{◌≡◌, ◌∙◌, ap, refl, sym, subst, inl, inr, Ok, Err}
+use Rattle.std.proofs.Common.{inl, inr, Err}
 use Rattle.std.proofs.lemmas.Result.{IfOk-weaker}
 use Rattle.grammar_file.specs.Spelling.{Spells}
 use Rattle.pareas_core.proofs.Meeting.{tables_or_conflict, no_grammar}

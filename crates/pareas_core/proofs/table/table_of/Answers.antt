@@ -1,7 +1,7 @@
-use Rattle.std.proofs.Common.{◌≡◌, ◌∙◌, ap, refl, sym, subst, inl, inr}
+use Rattle.std.proofs.Common.{◌≡◌, sym, subst, inl, inr}
 use Rattle.std.proofs.lemmas.Result.{IfOk-weaker}
 use Rattle.llp_tables.specs.Tables.{IsTableFault}
-use Rattle.pareas_core.specs.Output.{IsDueOfGrammar, conflicting, sized, done, sizes, Due}
+use Rattle.pareas_core.specs.Output.{IsDueOfGrammar, conflicting, sized, done, sizes}
 use Rattle.pareas_core.specs.declared.status.Status.TheVariants.{Done}
 use Rattle.pareas_core.proofs.table.table_of.Goals as goal
 
