@@ -4,7 +4,7 @@ ghost use Rattle.std.specs.Prelude.{◌≡◌, List, ℕ, length, IfOk};
 ghost use Rattle.command_line.specs.declared.command.Command.TheVariants.{Drill};
 ghost use Rattle.source_meaning.specs.Lexemes.{tokens};
 ghost use Rattle.pareas_core.specs.Headline.{IsResponse};
-ghost use Rattle.pareas_core.specs.Output.{drill_lines};
+ghost use Rattle.pareas_core.specs.Output.{drill_lines, drill_steps};
 
 use crate::compiler::{Compiled, compile_counting};
 use crate::counts::push_count;
@@ -15,8 +15,12 @@ use par_passes::Passes;
 use std::alloc::{AllocError, Global};
 use verdict::one_verdict;
 
-/// The steps that the machine is given.
-const STEPS: u32 = 1_000_000;
+// The steps that the machine is given.
+fn steps() -> u32
+    ensures { result ≡ drill_steps }
+{
+    1_000_000
+}
 
 // The lines of the sizes.
 fn lines(alloc: Global, text: &[u8], made: &Compiled) -> Result<Vec<u8>, AllocError>
@@ -43,7 +47,7 @@ pub(crate) fn drill(
     match compile_counting(crew, &text) {
         Ok(made) => {
             let lines = lines(crew.alloc(), &text, &made)?;
-            emulate(crew.alloc(), lines, &made.file, STEPS)
+            emulate(crew.alloc(), lines, &made.file, steps())
         }
         Err(refusal) => refused(crew.alloc(), &text, refusal),
     }

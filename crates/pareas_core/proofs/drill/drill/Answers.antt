@@ -17,7 +17,7 @@ returns-in-Ok g c = λ bytes.
     c.in_ok-lines-in-Ok.ensures ∙ ap (λ t. drill_lines t file) (c.deref-in-Ok.ensures.value ∙ c.in_ok-text.ensures) in
     IfOk-weaker c.emulate.result _ _
     (λ d h. drilled_through c.args.seed c.args.functions bytes file d compiled (c.one_verdict.ensures text)
-    (h ∙ (λ i. due_of_machine (lines i) (machine (c.deref-in-Ok-2.ensures.value i) drill_steps))))
+    (h ∙ (λ i. due_of_machine (lines i) (machine (c.deref-in-Ok-2.ensures.value i) (c.steps.ensures i)))))
     c.emulate.ensures
 
 pub returns : goal.returns
