@@ -15,4 +15,6 @@ pub use places::place;
 pub use refusal::Refusal;
 
 #[cfg(test)]
+mod row_tests;
+#[cfg(test)]
 mod tests;
