@@ -17,4 +17,6 @@ pub use refusal::Refusal;
 pub use tables::language_tables;
 
 #[cfg(test)]
+mod row_tests;
+#[cfg(test)]
 mod tests;
