@@ -282,7 +282,7 @@ fn count_rows<R: Threads + Sync>(rt: &R, alloc: Global, source: &[u8]) -> Result
 fn parentheses_in_great_depth(rt: HostRuntime) -> Result<(), Fail> {
     let alloc = rt.alloc();
     let pieces = (b"(".as_slice(), b"1".as_slice(), b")".as_slice());
-    let source = nested(alloc, b"fn main(): int { return ", pieces, 40_000, b"; }")?;
+    let source = nested(alloc, b"fn main(): int { return ", pieces, 100_000, b"; }")?;
     assert_eq!(rt; count_rows(&rt, alloc, source.as_slice())?, 5);
     Ok(())
 }
@@ -291,8 +291,8 @@ fn parentheses_in_great_depth(rt: HostRuntime) -> Result<(), Fail> {
 fn blocks_in_great_depth(rt: HostRuntime) -> Result<(), Fail> {
     let alloc = rt.alloc();
     let pieces = (b"{".as_slice(), b"".as_slice(), b"}".as_slice());
-    let source = nested(alloc, b"fn main(): int {", pieces, 50_000, b"}")?;
-    assert_eq!(rt; count_rows(&rt, alloc, source.as_slice())?, 50_003);
+    let source = nested(alloc, b"fn main(): int {", pieces, 100_000, b"}")?;
+    assert_eq!(rt; count_rows(&rt, alloc, source.as_slice())?, 100_003);
     Ok(())
 }
 
@@ -306,12 +306,22 @@ fn assignments_in_a_long_chain(rt: HostRuntime) -> Result<(), Fail> {
     Ok(())
 }
 
-#[test]
-fn a_call_with_many_arguments(rt: HostRuntime) -> Result<(), Fail> {
-    let alloc = rt.alloc();
+// A function main that calls itself with so many arguments and one more.
+fn many_arguments(alloc: Global, count: u32) -> Result<Vec<u8>, Fail> {
     let pieces = (b"1,".as_slice(), b"1".as_slice(), b"".as_slice());
-    let beginning = b"fn main(): int { return main[";
-    let source = nested(alloc, beginning, pieces, 19_999, b"]; }")?;
+    nested(
+        alloc,
+        b"fn main(): int { return main[",
+        pieces,
+        count,
+        b"]; }",
+    )
+}
+
+#[test]
+fn many_arguments_have_rows(rt: HostRuntime) -> Result<(), Fail> {
+    let alloc = rt.alloc();
+    let source = many_arguments(alloc, 19_999)?;
     let crew = Workers {
         runtime: &rt,
         alloc,
@@ -322,6 +332,19 @@ fn a_call_with_many_arguments(rt: HostRuntime) -> Result<(), Fail> {
         Ok(found) => assert_eq!(rt; found.len(), 20_005),
         Err(_) => assert!(rt; false),
     }
+    Ok(())
+}
+
+#[test]
+fn many_arguments_are_too_many(rt: HostRuntime) -> Result<(), Fail> {
+    let alloc = rt.alloc();
+    let source = many_arguments(alloc, 99_999)?;
+    let crew = Workers {
+        runtime: &rt,
+        alloc,
+        plan: Plan::new(4, 1024).ok_or("in range")?,
+        gate: &OpenGate,
+    };
     match front(&crew, source.as_slice()) {
         Ok(_) => assert!(rt; false),
         Err(refusal) => assert_eq!(rt; refusal, Refusal::Diagnostic { code: 502, at: 24 }),
