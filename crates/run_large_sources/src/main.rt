@@ -49,6 +49,22 @@ fn run<R: Threads + Print + Sync>(rt: &R, alloc: Global, source: Vec<u8>) -> io:
     io::writer(rt).write_all(notes.written())
 }
 
+/// Prints the summary of a drill of so many functions.
+fn drill<R: Threads + Print + Sync>(rt: &R, alloc: Global, functions: &str) -> io::Result<()> {
+    let mut words = words(alloc, "drill")?;
+    for word in ["--seed", "1", "--functions", functions] {
+        words.push(String::from_str(alloc, word)?)?;
+    }
+    let mut input = MemoryIn::new(Vec::new(alloc), STEP, Vec::new(alloc));
+    let mut out = MemoryOut::new(alloc, STEP, Vec::new(alloc));
+    let mut notes = MemoryOut::new(alloc, STEP, Vec::new(alloc));
+    pareas(
+        rt, alloc, &words, &mut input, &mut out, &mut notes, &OpenGate,
+    );
+    io::writer(rt).write_all(out.written())?;
+    io::writer(rt).write_all(notes.written())
+}
+
 fn at_the_limits<R: Threads + Print + Sync>(rt: &R, alloc: Global) -> io::Result<()> {
     print!(rt; "a frame of 2,032 bytes: ")?;
     run(rt, alloc, sources::variables(alloc, 506)?)?;
@@ -132,5 +148,7 @@ fn deep_ones<R: Threads + Print + Sync>(rt: &R, alloc: Global) -> io::Result<()>
 fn main(rt: HostRuntime) -> io::Result<()> {
     at_the_limits(&rt, rt.alloc())?;
     long_ones(&rt, rt.alloc())?;
-    deep_ones(&rt, rt.alloc())
+    deep_ones(&rt, rt.alloc())?;
+    println!(rt; "the greatest drill:")?;
+    drill(&rt, rt.alloc(), "4096")
 }
