@@ -19,10 +19,11 @@ use Rattle.row_laws.proofs.OwnedPlaces.{number_first}
 use Rattle.row_laws.proofs.ReadTerminals.{terminals_read}
 use Rattle.tree_passes.specs.Shapes.{shape_of, shape_word}
 use Rattle.tree_passes.specs.TokensOf.{no_token, no_token_row, token_by_row, first_by, owned_numbers}
-use Rattle.tree_passes.specs.Reading.{lexeme_of, kind_of, word_of, size_of, taken_of, numbered}
-use Rattle.tree_passes.specs.LineColumns.{AreNumbers, AreNear, AreHeads, AreJoins, AreReads}
+use Rattle.tree_passes.specs.Reading.{lexeme_of, kind_of, joins_of, word_of, size_of, taken_of, numbered}
+use Rattle.tree_passes.specs.LineColumns.{AreNumbers, AreNear, AreReads}
 use Rattle.tree_passes.proofs.Followed.{is_fn, fn_followed}
 use Rattle.tree_passes.proofs.FirstTokens.{first_there}
+use Rattle.tree_passes.proofs.Joined.{joins_is}
 use Rattle.tree_passes.proofs.LevelColumn.{line_there, lines_many}
 use Rattle.tree_passes.proofs.LineColumns.{begin_there, taken_placed, none_is, head_within}
 use Rattle.tree_passes.proofs.MarkColumns.{kind_is, far_other, number_only, is_num, reads_some, rows_few}
@@ -115,9 +116,9 @@ module _ (r : Tree Prog) (text numbers : List ℕ) (is : leaves r ≡ tokens tex
       (lexeme_is i l reads known)
       (λ n. first_digits (length text) (reads_at ps_ ts_ i) (each_read (length text) ps_ ts_ i (subst (Each (length text)) (sym is) (each_token text sound))) (first_is (reads_at ps_ ts_ i) (terminals_read r i l ∙ num_reads (production_at ps_ i) n)))
 
-  pub word_there : (reads heads : List ℕ) (joins : List Bool) → AreReads ps_ ts_ reads → AreHeads ps_ heads → AreJoins ps_ joins → (i : ℕ) → i < length ps_ → word_of numbers reads joins heads i ≡ token_word (row_at no_token ps_ ts_ i).token
-  word_there reads heads joins known near met i l =
-      (λ j. token_word (token_by (line_there ps_ numbers i e j) (numbered (known i l j)) (taken_is i l j) (met i l j) None))
+  pub word_there : (reads next heads : List ℕ) → AreReads ps_ ts_ reads → AreNear ps_ next heads → (i : ℕ) → i < length ps_ → word_of numbers reads next heads i ≡ token_word (row_at no_token ps_ ts_ i).token
+  word_there reads next heads known near i l =
+      (λ j. token_word (token_by (line_there ps_ numbers i e j) (numbered (known i l j)) (taken_is i l j) (joins_is ps_ numbers next heads i e near l j) None))
       ∙ ap token_word (number_only (production_at ps_ i) (numbered (read_at ps_ ts_ i)) (first_of (reads_at ps_ ts_ i) no_token) (taken_at ps_ ts_ i) (joins_at ps_ i) (number_first no_token (reads_at ps_ ts_ i) refl))
     where
       not_first : (b : Bool) → b ≡ false → (x y : ℕ) → x ≡ y → (if b then 0 else x) ≡ y
@@ -126,10 +127,10 @@ module _ (r : Tree Prog) (text numbers : List ℕ) (is : leaves r ≡ tokens tex
 
       taken_is : (i : ℕ) → i < length ps_ → taken_of numbers reads heads i ≡ taken_at ps_ ts_ i
       taken_is zero l = refl
-      taken_is (suc i) l = not_first (suc i == 0) (none_is i) _ _ (taken_placed ps_ ts_ numbers reads heads (suc i) (omega arith) (let m = lines_many ps_ numbers e in omega arith) e known near)
+      taken_is (suc i) l = not_first (suc i == 0) (none_is i) _ _ (taken_placed ps_ ts_ numbers reads heads (suc i) (omega arith) (let m = lines_many ps_ numbers e in omega arith) e known near.begins)
 
-  pub size_there : length ps_ ≤ 536870913 → (rows next heads : List ℕ) (joins : List Bool) → rows ≡ map (rows_before ps_) (range_with_len 0 (suc (length ps_))) → AreNear ps_ next heads → AreJoins ps_ joins → (i : ℕ) → i < length ps_ → size_of rows next numbers joins heads i ≡ (row_at no_token ps_ ts_ i).size
-  size_there few rows next heads joins known near met i l =
-      (λ j. min (get_or rows (near.closes i l j) 0 - get_or rows (begin_there ps_ numbers joins heads i e met near.begins (let m = lines_many ps_ numbers e in omega arith) j) 0) 4294967295)
+  pub size_there : length ps_ ≤ 536870913 → (rows next heads : List ℕ) → rows ≡ map (rows_before ps_) (range_with_len 0 (suc (length ps_))) → AreNear ps_ next heads → (i : ℕ) → i < length ps_ → size_of rows next numbers heads i ≡ (row_at no_token ps_ ts_ i).size
+  size_there few rows next heads known near i l =
+      (λ j. min (get_or rows (near.closes i l j) 0 - get_or rows (begin_there ps_ numbers heads i (joins_of numbers next heads i) (joins_is ps_ numbers next heads i e near l) e near.begins l j) 0) 4294967295)
       ∙ (λ j. min (value_at (rows_before ps_) 0 (suc (length ps_)) rows (close_at ps_ i) known (let w = closes_within r i l in omega arith) j - value_at (rows_before ps_) 0 (suc (length ps_)) rows (begin_at ps_ i) known (let w = begins_within ps_ i in omega arith) j) 4294967295)
       ∙ (let a = rows_few ps_ (close_at ps_ i) in let f : min (rows_before ps_ (close_at ps_ i) - rows_before ps_ (begin_at ps_ i)) 4294967295 ≡ rows_before ps_ (close_at ps_ i) - rows_before ps_ (begin_at ps_ i) = omega arith in f)

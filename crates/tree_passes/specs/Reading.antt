@@ -32,21 +32,26 @@ meets_of numbers next k =
     let j = slice_index_or next (suc k) 0 in
     is_cell (line_at numbers k) && (is_if (line_at numbers (suc k)) && (is_cell (line_at numbers j) && is_else (line_at numbers (suc j))))
 
+-- whether the cell right before a place meets; none stands before the first
+abbrev pub meets_before : (numbers next : List ℕ) → ℕ → Bool
+meets_before numbers next k = if k == 0 then false else meets_of numbers next (k - 1)
+
+-- what stands behind the head of the production right before a place
+abbrev pub head_before : (heads : List ℕ) → ℕ → ℕ
+head_before heads k = if k == 0 then 0 else slice_index_or heads (k - 1) 0
+
 -- whether an else joins
-abbrev pub joins_of : (numbers : List ℕ) → List Bool → (heads : List ℕ) → ℕ → Bool
-joins_of numbers meets heads k =
-    let head = slice_index_or heads (k - 1) 0 in
-    if k == 0 then false
-    else joins_by (line_at numbers k) (slice_index_or meets (k - 1) false) (if head == 0 then false else slice_index_or meets (head - 1) false)
+abbrev pub joins_of : (numbers next heads : List ℕ) → ℕ → Bool
+joins_of numbers next heads k = joins_by (line_at numbers k) (meets_before numbers next k) (meets_before numbers next (head_before heads k))
 
 -- whether a production has a row
-abbrev pub makes_of : (numbers : List ℕ) → List Bool → ℕ → Bool
-makes_of numbers joins k = is_made (has_row (line_at numbers k) (slice_index_or joins k false))
+abbrev pub makes_of : (numbers next heads : List ℕ) → ℕ → Bool
+makes_of numbers next heads k = is_made (has_row (line_at numbers k) (joins_of numbers next heads k))
 
 -- where the subtree of a row begins
-abbrev pub begin_of : (numbers : List ℕ) → List Bool → (heads : List ℕ) → ℕ → ℕ
-begin_of numbers joins heads k =
-    if reaches_back (line_at numbers k) (slice_index_or joins k false)
+abbrev pub begin_of : (numbers next heads : List ℕ) → ℕ → ℕ
+begin_of numbers next heads k =
+    if reaches_back (line_at numbers k) (joins_of numbers next heads k)
     then (if is_else (line_at numbers k) then slice_index_or heads (before_it k) 0 else slice_index_or heads k 0)
     else k
 
@@ -80,12 +85,12 @@ kind_of text starts lengths reads numbers next i =
     (type_named (line_at numbers i) (line_at numbers (slice_index_or next (suc i) 0)) (line_at numbers (suc i)))
 
 -- the word of its own token; none for a statement that is a value
-abbrev pub word_of : (numbers reads : List ℕ) → List Bool → (heads : List ℕ) → ℕ → ℕ
-word_of numbers reads joins heads i = token_word (token_by (line_at numbers i) (numbered (slice_index_or reads i 0)) (taken_of numbers reads heads i) (slice_index_or joins i false) None)
+abbrev pub word_of : (numbers reads next heads : List ℕ) → ℕ → ℕ
+word_of numbers reads next heads i = token_word (token_by (line_at numbers i) (numbered (slice_index_or reads i 0)) (taken_of numbers reads heads i) (joins_of numbers next heads i) None)
 
 -- how many rows its subtree has
-abbrev pub size_of : (rows next numbers : List ℕ) → List Bool → (heads : List ℕ) → ℕ → ℕ
-size_of rows next numbers joins heads i = min (slice_index_or rows (slice_index_or next i 0) 0 - slice_index_or rows (begin_of numbers joins heads i) 0) 4294967295
+abbrev pub size_of : (rows next numbers heads : List ℕ) → ℕ → ℕ
+size_of rows next numbers heads i = min (slice_index_or rows (slice_index_or next i 0) 0 - slice_index_or rows (begin_of numbers next heads i) 0) 4294967295
 
 -- what the productions have, in an order, and behind them what the program has
 abbrev pub in_order : {X : Type 0} → List ℕ → (ℕ → X) → X → ℕ → X

@@ -2,10 +2,12 @@
 ghost use Rattle.std.specs.Prelude.{◌≡◌, ◌+◌, ◌≤◌, ◌<◌, length, map, IfOk};
 ghost use Rattle.std.specs.List.{range_with_len};
 ghost use Rattle.source_meaning.specs.declared.kinds.Kind.TheVariants.{Program};
-ghost use Rattle.tree_passes.specs.Reading.{in_order, kind_of, size_of, word_of};
+ghost use Rattle.row_laws.specs.Placed.{before_it};
+ghost use Rattle.tree_passes.specs.Reading.{begin_of, in_order, kind_of, size_of, word_of};
 
-use crate::columns::{begin_in, flag, number, production, sum, taken_in};
-use crate::lines::{kind, named, own_token};
+use crate::columns::{number, production, sum, taken_in};
+use crate::joining::joins_in;
+use crate::lines::{begin, kind, named, own_token};
 use crate::reading::lexeme;
 use par_passes::Passes;
 use source_meaning::Kind;
@@ -61,19 +63,33 @@ pub(crate) fn kinds_all(
     crew.tabulate(order.len() as u32 + 1, &at)
 }
 
+// The place before one, and the first itself.
+fn place_before(place: usize) -> usize
+    ensures { result ≡ before_it place }
+{
+    if place == 0 { 0 } else { place - 1 }
+}
+
+// Where the subtree of the row at a place begins.
+fn begin_in(numbers: &[u16], next: &[u32], heads: &[u32], place: u32) -> u32
+    ensures { result ≡ begin_of numbers.now next.now heads.now place }
+{
+    let at = place as usize;
+    begin(
+        production(numbers, at),
+        joins_in(numbers, next, heads, place),
+        place,
+        number(heads, at),
+        number(heads, place_before(at)),
+    )
+}
+
 // How many rows the subtree of the row of the production at a place has.
-fn size_in(
-    rows: &[u64],
-    next: &[u32],
-    numbers: &[u16],
-    joins: &[bool],
-    heads: &[u32],
-    place: u32,
-) -> u32
-    ensures { result ≡ size_of rows.now next.now numbers.now joins.now heads.now place }
+fn size_in(rows: &[u64], next: &[u32], numbers: &[u16], heads: &[u32], place: u32) -> u32
+    ensures { result ≡ size_of rows.now next.now numbers.now heads.now place }
 {
     let closed = sum(rows, number(next, place as usize) as usize);
-    let begun = sum(rows, begin_in(numbers, joins, heads, place) as usize);
+    let begun = sum(rows, begin_in(numbers, next, heads, place) as usize);
     closed.saturating_sub(begun).min(u64::from(u32::MAX)) as u32
 }
 
@@ -83,20 +99,19 @@ pub(crate) fn sizes_all(
     rows: &[u64],
     next: &[u32],
     numbers: &[u16],
-    joins: &[bool],
     heads: &[u32],
     order: &[u32],
 ) -> Result<Vec<u32>, AllocError>
     requires few { length order.now ≤ 536870913 }
-    ensures { IfOk result (λ v. v.items ≡ map (in_order order.now (size_of rows.now next.now numbers.now joins.now heads.now) (length order.now + 1)) (range_with_len 0 (length order.now + 1))) }
+    ensures { IfOk result (λ v. v.items ≡ map (in_order order.now (size_of rows.now next.now numbers.now heads.now) (length order.now + 1)) (range_with_len 0 (length order.now + 1))) }
 {
     let whole = order.len() as u32 + 1;
     let at = |k: u32| -> u32
-        ensures { result ≡ in_order order.entry.now (size_of rows.entry.now next.entry.now numbers.entry.now joins.entry.now heads.entry.now) whole k }
+        ensures { result ≡ in_order order.entry.now (size_of rows.entry.now next.entry.now numbers.entry.now heads.entry.now) whole k }
     {
         let k = k as usize;
         if k < order.len() {
-            size_in(rows, next, numbers, joins, heads, order[k])
+            size_in(rows, next, numbers, heads, order[k])
         } else {
             whole
         }
@@ -105,15 +120,15 @@ pub(crate) fn sizes_all(
 }
 
 // The word of the own token of the row of the production at a place.
-fn word_in(numbers: &[u16], reads: &[u32], joins: &[bool], heads: &[u32], place: u32) -> u32
-    ensures { result ≡ word_of numbers.now reads.now joins.now heads.now place }
+fn word_in(numbers: &[u16], reads: &[u32], next: &[u32], heads: &[u32], place: u32) -> u32
+    ensures { result ≡ word_of numbers.now reads.now next.now heads.now place }
 {
     let at = place as usize;
     own_token(
         production(numbers, at),
         number(reads, at),
         taken_in(numbers, reads, heads, at),
-        flag(joins, at),
+        joins_in(numbers, next, heads, place),
     )
 }
 
@@ -122,19 +137,19 @@ pub(crate) fn words_all(
     crew: &impl Passes,
     numbers: &[u16],
     reads: &[u32],
-    joins: &[bool],
+    next: &[u32],
     heads: &[u32],
     order: &[u32],
 ) -> Result<Vec<u32>, AllocError>
     requires few { length order.now ≤ 536870913 }
-    ensures { IfOk result (λ v. v.items ≡ map (in_order order.now (word_of numbers.now reads.now joins.now heads.now) 4294967295) (range_with_len 0 (length order.now + 1))) }
+    ensures { IfOk result (λ v. v.items ≡ map (in_order order.now (word_of numbers.now reads.now next.now heads.now) 4294967295) (range_with_len 0 (length order.now + 1))) }
 {
     let at = |k: u32| -> u32
-        ensures { result ≡ in_order order.entry.now (word_of numbers.entry.now reads.entry.now joins.entry.now heads.entry.now) 4294967295 k }
+        ensures { result ≡ in_order order.entry.now (word_of numbers.entry.now reads.entry.now next.entry.now heads.entry.now) 4294967295 k }
     {
         let k = k as usize;
         if k < order.len() {
-            word_in(numbers, reads, joins, heads, order[k])
+            word_in(numbers, reads, next, heads, order[k])
         } else {
             u32::MAX
         }

@@ -16,9 +16,9 @@ pub returns : goal.returns
 returns g c = λ r is near closing known.
     columns_by r c.args.text.now c.args.numbers.now is c.requires.lexical c.requires.small
     c.args.tokens.now c.starts.result.now c.lengths.result.now c.requires.tokens c.starts.ensures c.lengths.ensures
-    c.args.nearest.now.next.items c.args.nearest.now.begin.items c.args.closing.now.joins.items c.args.closing.now.rows.items c.args.closing.now.order.items c.args.reads.now near closing known
-    c.as_slice-next.result.now c.as_slice-heads.result.now c.as_slice-joins.result.now c.as_slice.result.now c.as_slice-order.result.now
-    c.as_slice-next.ensures.value c.as_slice-heads.ensures.value c.as_slice-joins.ensures.value c.as_slice.ensures.value c.as_slice-order.ensures.value
+    c.args.nearest.now.next.items c.args.nearest.now.begin.items c.args.closing.now.rows.items c.args.closing.now.order.items c.args.reads.now near closing known
+    c.as_slice-next.result.now c.as_slice-heads.result.now c.as_slice.result.now c.as_slice-order.result.now
+    c.as_slice-next.ensures.value c.as_slice-heads.ensures.value c.as_slice.ensures.value c.as_slice-order.ensures.value
     c.in_ok-kinds.kinds.items c.in_ok-sizes.sizes.items c.in_ok-words.words.items c.in_ok-tokens.tokens.items
     c.in_ok-kinds.ensures c.in_ok-sizes.ensures c.in_ok-words.ensures
     c.as_slice-2.result.now c.as_slice-3.result.now c.as_slice-2.ensures.value c.as_slice-3.ensures.value c.in_ok-tokens.ensures

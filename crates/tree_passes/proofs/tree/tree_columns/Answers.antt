@@ -26,5 +26,5 @@ find_columns-requires-clause-order g c κs within = order_few c.requires.parsed.
 pub returns : goal.returns
 returns g c = if_ok c.find_columns.result c.find_columns.ensures (λ v known r is.
     let closing = c.in_ok-closing.ensures r (sym is.1) (near_slices (left_parse r) c.in_ok-nearest.nearest.next.items c.in_ok-nearest.nearest.begin.items c.as_slice.result.now c.as_slice-2.result.now c.as_slice.ensures.value c.as_slice-2.ensures.value (c.in_ok-nearest.ensures r (sym is.1))) in
-    tree_columns_are r c.args.text.now c.args.numbers.now is c.requires.lexical c.requires.small c.in_ok-closing.closing.joins.items c.in_ok-closing.closing.rows.items c.in_ok-closing.closing.order.items closing v.kinds.items v.sizes.items v.tokens.items
+    tree_columns_are r c.args.text.now c.args.numbers.now is c.requires.lexical c.requires.small c.in_ok-closing.closing.rows.items c.in_ok-closing.closing.order.items closing v.kinds.items v.sizes.items v.tokens.items
     (known r is (c.in_ok-nearest.ensures r (sym is.1)) closing (subst (AreReads (left_parse r) (leaves r)) (sym c.as_slice-3.ensures.value) (c.in_ok-reads.ensures r c.args.text.now is (terminals_are c.args.text.now c.args.tokens.now c.kinds.result.now c.requires.tokens c.kinds.ensures)))))
