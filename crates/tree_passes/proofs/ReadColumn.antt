@@ -24,16 +24,15 @@ number_by : (b : Bool) (t : Token) → (if b then 0 else t.number) ≡ (if b the
 number_by true t = refl
 number_by false t = refl
 
-pub reads_are : (r : Tree Prog) (text numbers owned sums reads : List ℕ) → leaves r ≡ tokens text → AreNumbers (left_parse r) numbers → length numbers ≤ 536870913 →
-    owned ≡ owned_numbers (map (λ t. t.terminal) (map row_of (tokens text))) → sums ≡ prefixes count (map (λ q. reads_count (production_of q)) numbers) → reads ≡ map (read_of owned sums numbers) (range_with_len 0 (length numbers)) → AreReads (left_parse r) (leaves r) reads
-reads_are r text numbers owned sums reads is e few a b v i l =
+pub reads_are : (r : Tree Prog) (text numbers owned sums : List ℕ) → leaves r ≡ tokens text → AreNumbers (left_parse r) numbers → length numbers ≤ 536870913 →
+    owned ≡ owned_numbers (map (λ t. t.terminal) (map row_of (tokens text))) → sums ≡ prefixes count (map (λ q. reads_count (production_of q)) numbers) → AreReads (left_parse r) (leaves r) (read_of owned sums numbers)
+reads_are r text numbers owned sums is e few a b i l =
     let ps = left_parse r in
     let many = lines_many ps numbers e in
     let sums_are : sums ≡ map (reads_from ps) (range_with_len 0 (suc (length ps))) = b ∙ ap (λ l. prefixes count (map (λ q. reads_count (production_of q)) l)) e ∙ read_sums ps (omega arith) in
     let rows = map row_of (tokens text) in
     let from : get_or sums i 0 ≡ reads_from ps i = value_at (reads_from ps) 0 (suc (length ps)) sums i sums_are (omega arith) in
-    value_at (read_of owned sums numbers) 0 (length numbers) reads i v (omega arith)
-    ∙ (λ j. if reads_count (line_there ps numbers i e j) == 0 then 0 else get_or (a j) (from j) 0)
+    (λ j. if reads_count (line_there ps numbers i e j) == 0 then 0 else get_or (a j) (from j) 0)
     ∙ number_by (reads_count (production_at ps i) == 0) (token_by_row text rows (get_or (owned_numbers (map (λ t. t.terminal) rows)) (reads_from ps i) 0))
     ∙ ap (λ (t : Token). t.number) (sym (first_there text r is i l))
     ∙ sym (number_first no_token (reads_at ps (leaves r) i) refl)

@@ -95,8 +95,8 @@ module _ (r : Tree Prog) (text numbers : List ℕ) (is : leaves r ≡ tokens tex
           ∙ near.third i (let l = g.1 in omega arith) (fn_kids (production_at ps_ i) f) (ap (λ (k : ℕ). is_early (production_at ps_ k)) more ∙ g.0))
       by false f = far_other (production_at ps_ i) (production_at ps_ (get_or next (suc i) 0)) (production_at ps_ (next_low (levels 1 ps_) i (open_at 1 ps_ i + open_at 1 ps_ i + 3))) (production_at ps_ (suc i)) f
 
-  lexeme_is : (i : ℕ) → i < length ps_ → (reads : List ℕ) → AreReads ps_ ts_ reads → reads_some (production_at ps_ i) ≡ true → lexeme_of text (map (λ r. r.start) (map row_of (tokens text))) (map (λ r. r.length) (map row_of (tokens text))) (get_or reads i 0) ≡ (first_of (reads_at ps_ ts_ i) no_token).lexeme
-  lexeme_is i l reads known some =
+  lexeme_is : (i : ℕ) → i < length ps_ → (read : ℕ → ℕ) → AreReads ps_ ts_ read → reads_some (production_at ps_ i) ≡ true → lexeme_of text (map (λ r. r.start) (map row_of (tokens text))) (map (λ r. r.length) (map row_of (tokens text))) (read i) ≡ (first_of (reads_at ps_ ts_ i) no_token).lexeme
+  lexeme_is i l read known some =
       ap (lexeme_of text (map (λ r. r.start) (map row_of (tokens text))) (map (λ r. r.length) (map row_of (tokens text)))) (known i l ∙ number_first no_token (reads_at ps_ ts_ i) refl)
       ∙ lexeme_back text (map row_of (tokens text)) (first_of (reads_at ps_ ts_ i) no_token) (get_or (owned_numbers (map (λ r. r.terminal) (map row_of (tokens text)))) (reads_from ps_ i) 0)
       (first_there text r is i l ∙ taken (reads_count (production_at ps_ i) == 0) (none some) refl)
@@ -107,17 +107,17 @@ module _ (r : Tree Prog) (text numbers : List ℕ) (is : leaves r ≡ tokens tex
       taken : (b : Bool) → b ≡ false → (reads_count (production_at ps_ i) == 0) ≡ b → first_by text (map row_of (tokens text)) (production_at ps_ i) (reads_from ps_ i) ≡ token_by_row text (map row_of (tokens text)) (get_or (owned_numbers (map (λ r. r.terminal) (map row_of (tokens text)))) (reads_from ps_ i) 0)
       taken b f g = ap (λ (b : Bool). if b then no_token else token_by_row text (map row_of (tokens text)) (get_or (owned_numbers (map (λ r. r.terminal) (map row_of (tokens text)))) (reads_from ps_ i) 0)) (g ∙ f)
 
-  pub kind_there : lexical_fault text ≡ None → (reads next heads : List ℕ) → AreReads ps_ ts_ reads → AreNear ps_ next heads → (i : ℕ) → i < length ps_ → kind_of text (map (λ r. r.start) (map row_of (tokens text))) (map (λ r. r.length) (map row_of (tokens text))) reads numbers next i ≡ (row_at no_token ps_ ts_ i).kind
-  kind_there sound reads next heads known near i l =
-      (λ j. shape_word (shape_of (line_there ps_ numbers i e j)) (lexeme_of text (map (λ r. r.start) (map row_of (tokens text))) (map (λ r. r.length) (map row_of (tokens text))) (get_or reads i 0))
+  pub kind_there : lexical_fault text ≡ None → (read : ℕ → ℕ) (next heads : List ℕ) → AreReads ps_ ts_ read → AreNear ps_ next heads → (i : ℕ) → i < length ps_ → kind_of text (map (λ r. r.start) (map row_of (tokens text))) (map (λ r. r.length) (map row_of (tokens text))) read numbers next i ≡ (row_at no_token ps_ ts_ i).kind
+  kind_there sound read next heads known near i l =
+      (λ j. shape_word (shape_of (line_there ps_ numbers i e j)) (lexeme_of text (map (λ r. r.start) (map row_of (tokens text))) (map (λ r. r.length) (map row_of (tokens text))) (read i))
       ((type_named (line_there ps_ numbers i e j) (line_there ps_ numbers (get_or next (suc i) 0) e j) (line_there ps_ numbers (suc i) e j))))
-      ∙ ap (shape_word (shape_of (production_at ps_ i)) (lexeme_of text (map (λ r. r.start) (map row_of (tokens text))) (map (λ r. r.length) (map row_of (tokens text))) (get_or reads i 0))) (far_is next heads i near)
-      ∙ kind_is (production_at ps_ i) (lexeme_of text (map (λ r. r.start) (map row_of (tokens text))) (map (λ r. r.length) (map row_of (tokens text))) (get_or reads i 0)) (first_of (reads_at ps_ ts_ i) no_token) (named_at ps_ i) (joins_at ps_ i)
-      (lexeme_is i l reads known)
+      ∙ ap (shape_word (shape_of (production_at ps_ i)) (lexeme_of text (map (λ r. r.start) (map row_of (tokens text))) (map (λ r. r.length) (map row_of (tokens text))) (read i))) (far_is next heads i near)
+      ∙ kind_is (production_at ps_ i) (lexeme_of text (map (λ r. r.start) (map row_of (tokens text))) (map (λ r. r.length) (map row_of (tokens text))) (read i)) (first_of (reads_at ps_ ts_ i) no_token) (named_at ps_ i) (joins_at ps_ i)
+      (lexeme_is i l read known)
       (λ n. first_digits (length text) (reads_at ps_ ts_ i) (each_read (length text) ps_ ts_ i (subst (Each (length text)) (sym is) (each_token text sound))) (first_is (reads_at ps_ ts_ i) (terminals_read r i l ∙ num_reads (production_at ps_ i) n)))
 
-  pub word_there : (reads next heads : List ℕ) → AreReads ps_ ts_ reads → AreNear ps_ next heads → (i : ℕ) → i < length ps_ → word_of numbers reads next heads i ≡ token_word (row_at no_token ps_ ts_ i).token
-  word_there reads next heads known near i l =
+  pub word_there : (read : ℕ → ℕ) (next heads : List ℕ) → AreReads ps_ ts_ read → AreNear ps_ next heads → (i : ℕ) → i < length ps_ → word_of numbers read next heads i ≡ token_word (row_at no_token ps_ ts_ i).token
+  word_there read next heads known near i l =
       (λ j. token_word (token_by (line_there ps_ numbers i e j) (numbered (known i l j)) (taken_is i l j) (joins_is ps_ numbers next heads i e near l j) None))
       ∙ ap token_word (number_only (production_at ps_ i) (numbered (read_at ps_ ts_ i)) (first_of (reads_at ps_ ts_ i) no_token) (taken_at ps_ ts_ i) (joins_at ps_ i) (number_first no_token (reads_at ps_ ts_ i) refl))
     where
@@ -125,9 +125,9 @@ module _ (r : Tree Prog) (text numbers : List ℕ) (is : leaves r ≡ tokens tex
       not_first true h x y s = absurd (cc)
       not_first false h x y s = s
 
-      taken_is : (i : ℕ) → i < length ps_ → taken_of numbers reads heads i ≡ taken_at ps_ ts_ i
+      taken_is : (i : ℕ) → i < length ps_ → taken_of numbers read heads i ≡ taken_at ps_ ts_ i
       taken_is zero l = refl
-      taken_is (suc i) l = not_first (suc i == 0) (none_is i) _ _ (taken_placed ps_ ts_ numbers reads heads (suc i) (omega arith) (let m = lines_many ps_ numbers e in omega arith) e known near.begins)
+      taken_is (suc i) l = not_first (suc i == 0) (none_is i) _ _ (taken_placed ps_ ts_ numbers read heads (suc i) (omega arith) (let m = lines_many ps_ numbers e in omega arith) e known near.begins)
 
   pub size_there : length ps_ ≤ 536870913 → (rows next heads : List ℕ) → rows ≡ map (rows_before ps_) (range_with_len 0 (suc (length ps_))) → AreNear ps_ next heads → (i : ℕ) → i < length ps_ → size_of rows next numbers heads i ≡ (row_at no_token ps_ ts_ i).size
   size_there few rows next heads known near i l =

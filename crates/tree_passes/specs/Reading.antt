@@ -55,13 +55,6 @@ begin_of numbers next heads k =
     then (if is_else (line_at numbers k) then slice_index_or heads (before_it k) 0 else slice_index_or heads k 0)
     else k
 
--- the number of the token that a row may take from before it
-abbrev pub taken_of : (numbers reads heads : List ℕ) → ℕ → ℕ
-taken_of numbers reads heads k =
-    let head = slice_index_or heads (k - 1) 0 in
-    if k == 0 then 0
-    else (if is_call (left (line_at numbers k)) then slice_index_or reads (k - 1) 0 else (if head == 0 then 0 else slice_index_or reads head 0))
-
 -- where the row of a production stands in the order of closing, from how many rows are made and how many are closed before each place
 abbrev pub stands_of : (rows closed next : List ℕ) → ℕ → ℕ
 stands_of rows closed next i = slice_index_or rows (slice_index_or next i 0) 0 - suc (slice_index_or rows i 0 - slice_index_or closed (suc i) 0)
@@ -74,19 +67,26 @@ numbered number = record { number = number; start = 0; terminal = Ident; lexeme 
 abbrev pub read_of : (owned sums numbers : List ℕ) → ℕ → ℕ
 read_of owned sums numbers k = if reads_count (line_at numbers k) == 0 then 0 else slice_index_or owned (slice_index_or sums k 0) 0
 
+-- the number of the token that a row may take from before it, from the one that each production reads first
+abbrev pub taken_of : (numbers : List ℕ) → (read : ℕ → ℕ) → (heads : List ℕ) → ℕ → ℕ
+taken_of numbers read heads k =
+    let head = slice_index_or heads (k - 1) 0 in
+    if k == 0 then 0
+    else (if is_call (left (line_at numbers k)) then read (k - 1) else (if head == 0 then 0 else read head))
+
 -- the bytes of a token
 abbrev pub lexeme_of : (text starts lengths : List ℕ) → ℕ → List ℕ
 lexeme_of text starts lengths token = take (slice_index_or lengths token 0) (drop (slice_index_or starts token 0) text)
 
 -- the kind of a production's row
-abbrev pub kind_of : (text starts lengths reads numbers next : List ℕ) → ℕ → Kind
-kind_of text starts lengths reads numbers next i =
-    shape_word (shape_of (line_at numbers i)) (lexeme_of text starts lengths (slice_index_or reads i 0))
+abbrev pub kind_of : (text starts lengths : List ℕ) → (read : ℕ → ℕ) → (numbers next : List ℕ) → ℕ → Kind
+kind_of text starts lengths read numbers next i =
+    shape_word (shape_of (line_at numbers i)) (lexeme_of text starts lengths (read i))
     (type_named (line_at numbers i) (line_at numbers (slice_index_or next (suc i) 0)) (line_at numbers (suc i)))
 
 -- the word of its own token; none for a statement that is a value
-abbrev pub word_of : (numbers reads next heads : List ℕ) → ℕ → ℕ
-word_of numbers reads next heads i = token_word (token_by (line_at numbers i) (numbered (slice_index_or reads i 0)) (taken_of numbers reads heads i) (joins_of numbers next heads i) None)
+abbrev pub word_of : (numbers : List ℕ) → (read : ℕ → ℕ) → (next heads : List ℕ) → ℕ → ℕ
+word_of numbers read next heads i = token_word (token_by (line_at numbers i) (numbered (read i)) (taken_of numbers read heads i) (joins_of numbers next heads i) None)
 
 -- how many rows its subtree has
 abbrev pub size_of : (rows next numbers heads : List ℕ) → ℕ → ℕ

@@ -3,12 +3,13 @@ ghost use Rattle.std.specs.Prelude.{◌≡◌, ◌+◌, ◌≤◌, ◌<◌, leng
 ghost use Rattle.std.specs.List.{range_with_len};
 ghost use Rattle.source_meaning.specs.declared.kinds.Kind.TheVariants.{Program};
 ghost use Rattle.row_laws.specs.Placed.{before_it};
-ghost use Rattle.tree_passes.specs.Reading.{begin_of, in_order, kind_of, size_of, word_of};
+ghost use Rattle.tree_passes.specs.Reading.{begin_of, in_order, kind_of, read_of, size_of, word_of};
 
-use crate::columns::{number, production, sum, taken_in};
+use crate::columns::{number, production, sum};
 use crate::joining::joins_in;
-use crate::lines::{begin, kind, named, own_token};
-use crate::reading::lexeme;
+use crate::lines::{begin, kind, named};
+use crate::reading::{TokenReads, lexeme, read_in, taken_in};
+use crate::shapes::{Shape, made_by};
 use par_passes::Passes;
 use source_meaning::Kind;
 use std::alloc::AllocError;
@@ -18,12 +19,12 @@ fn kind_in(
     text: &[u8],
     starts: &[u32],
     lengths: &[u32],
-    reads: &[u32],
+    reads: &TokenReads,
     numbers: &[u16],
     next: &[u32],
     place: u32,
 ) -> Kind
-    ensures { result ≡ kind_of text.now starts.now lengths.now reads.now numbers.now next.now place }
+    ensures { result ≡ kind_of text.now starts.now lengths.now (read_of reads.now.owned.items reads.now.sums.items numbers.now) numbers.now next.now place }
 {
     let at = place as usize;
     let mine = production(numbers, at);
@@ -32,7 +33,7 @@ fn kind_in(
     kind(
         mine,
         named(mine, far, near),
-        lexeme(text, starts, lengths, number(reads, at)),
+        lexeme(text, starts, lengths, read_in(reads, numbers, place)),
     )
 }
 
@@ -42,16 +43,16 @@ pub(crate) fn kinds_all(
     text: &[u8],
     starts: &[u32],
     lengths: &[u32],
-    reads: &[u32],
+    reads: &TokenReads,
     numbers: &[u16],
     next: &[u32],
     order: &[u32],
 ) -> Result<Vec<Kind>, AllocError>
     requires few { length order.now ≤ 536870913 }
-    ensures { IfOk result (λ v. v.items ≡ map (in_order order.now (kind_of text.now starts.now lengths.now reads.now numbers.now next.now) Program) (range_with_len 0 (length order.now + 1))) }
+    ensures { IfOk result (λ v. v.items ≡ map (in_order order.now (kind_of text.now starts.now lengths.now (read_of reads.now.owned.items reads.now.sums.items numbers.now) numbers.now next.now) Program) (range_with_len 0 (length order.now + 1))) }
 {
     let at = |k: u32| -> Kind
-        ensures { result ≡ in_order order.entry.now (kind_of text.entry.now starts.entry.now lengths.entry.now reads.entry.now numbers.entry.now next.entry.now) Program k }
+        ensures { result ≡ in_order order.entry.now (kind_of text.entry.now starts.entry.now lengths.entry.now (read_of reads.entry.now.owned.items reads.entry.now.sums.items numbers.entry.now) numbers.entry.now next.entry.now) Program k }
     {
         let k = k as usize;
         if k < order.len() {
@@ -120,32 +121,37 @@ pub(crate) fn sizes_all(
 }
 
 // The word of the own token of the row of the production at a place.
-fn word_in(numbers: &[u16], reads: &[u32], next: &[u32], heads: &[u32], place: u32) -> u32
-    ensures { result ≡ word_of numbers.now reads.now next.now heads.now place }
+fn word_in(numbers: &[u16], reads: &TokenReads, next: &[u32], heads: &[u32], place: u32) -> u32
+    ensures { result ≡ word_of numbers.now (read_of reads.now.owned.items reads.now.sums.items numbers.now) next.now heads.now place }
 {
-    let at = place as usize;
-    own_token(
-        production(numbers, at),
-        number(reads, at),
-        taken_in(numbers, reads, heads, at),
-        joins_in(numbers, next, heads, place),
-    )
+    match made_by(production(numbers, place as usize)) {
+        Shape::Call | Shape::Plain => taken_in(reads, numbers, heads, place),
+        Shape::Else => {
+            if joins_in(numbers, next, heads, place) {
+                taken_in(reads, numbers, heads, place)
+            } else {
+                read_in(reads, numbers, place)
+            }
+        },
+        Shape::Eval => u32::MAX,
+        _ => read_in(reads, numbers, place),
+    }
 }
 
 /// The words of the rows' own tokens, but for those of statements that are a value.
 pub(crate) fn words_all(
     crew: &impl Passes,
     numbers: &[u16],
-    reads: &[u32],
+    reads: &TokenReads,
     next: &[u32],
     heads: &[u32],
     order: &[u32],
 ) -> Result<Vec<u32>, AllocError>
     requires few { length order.now ≤ 536870913 }
-    ensures { IfOk result (λ v. v.items ≡ map (in_order order.now (word_of numbers.now reads.now next.now heads.now) 4294967295) (range_with_len 0 (length order.now + 1))) }
+    ensures { IfOk result (λ v. v.items ≡ map (in_order order.now (word_of numbers.now (read_of reads.now.owned.items reads.now.sums.items numbers.now) next.now heads.now) 4294967295) (range_with_len 0 (length order.now + 1))) }
 {
     let at = |k: u32| -> u32
-        ensures { result ≡ in_order order.entry.now (word_of numbers.entry.now reads.entry.now next.entry.now heads.entry.now) 4294967295 k }
+        ensures { result ≡ in_order order.entry.now (word_of numbers.entry.now (read_of reads.entry.now.owned.items reads.entry.now.sums.items numbers.entry.now) next.entry.now heads.entry.now) 4294967295 k }
     {
         let k = k as usize;
         if k < order.len() {

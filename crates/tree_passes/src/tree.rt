@@ -12,6 +12,7 @@ ghost use Rattle.row_laws.specs.Climbed.{row_by_lists};
 ghost use Rattle.tree_passes.specs.Columns.{numbers_of};
 ghost use Rattle.row_laws.specs.Faulted.{fault_keys as keys_of};
 ghost use Rattle.tree_passes.specs.LineColumns.{AreNear, AreNumbers, AreReads};
+ghost use Rattle.tree_passes.specs.Reading.{read_of};
 ghost use Rattle.tree_passes.specs.TokensOf.{no_token};
 ghost use Rattle.tree_passes.specs.TreeColumns.{AreClosing, AreRowColumns, AreSmall, AreTreeColumns, IsLeastKey, IsParseOf};
 ghost use Rattle.tree_passes.specs.declared.fault.ShapeFault.TheVariants.{Diagnostic as Told};
@@ -22,7 +23,7 @@ use crate::joining::{made_all, row_sums};
 use crate::laid::lay;
 use crate::levels::near;
 use crate::ordering::{closed_sums, order};
-use crate::reading::{owned_all, read_sums, reads_all};
+use crate::reading::{TokenReads, owned_all, read_sums};
 use crate::row_columns::{kinds_all, sizes_all, words_all};
 use ast_rows::{Rows, Tokens};
 use key_passes::counted;
@@ -55,15 +56,15 @@ fn closing_order(
     Ok(Closing { rows, order })
 }
 
-// The number of the token that each production reads first.
-fn reads(crew: &impl Passes, kinds: &[Terminal], numbers: &[u16]) -> Result<Vec<u32>, AllocError>
+// What tells the token that each production reads first.
+fn reads(crew: &impl Passes, kinds: &[Terminal], numbers: &[u16]) -> Result<TokenReads, AllocError>
     requires few { length numbers.now ≤ 536870913 }
     requires kinds { length kinds.now ≤ 4294967295 }
-    ensures { IfOk result (λ v. (r : Tree Prog) (text : List ℕ) → IsParseOf text numbers.now r → kinds.now ≡ map (λ t. t.terminal) (map row_of (tokens_of text)) → AreReads (left_parse r) (leaves r) v.items) }
+    ensures { IfOk result (λ v. (r : Tree Prog) (text : List ℕ) → IsParseOf text numbers.now r → kinds.now ≡ map (λ t. t.terminal) (map row_of (tokens_of text)) → AreReads (left_parse r) (leaves r) (read_of v.owned.items v.sums.items numbers.now)) }
 {
     let owned = owned_all(crew, kinds)?;
     let sums = read_sums(crew, numbers)?;
-    reads_all(crew, owned.as_slice(), sums.as_slice(), numbers)
+    Ok(TokenReads { owned, sums })
 }
 
 // Kinds, sizes and own tokens of the rows.
@@ -82,14 +83,14 @@ fn find_columns(
     numbers: &[u16],
     nearest: &Nearest,
     closing: &Closing,
-    reads: &[u32],
+    reads: &TokenReads,
 ) -> Result<Columns, AllocError>
     requires small { length text.now ≤ 2 ^ 24 }
     requires few { length numbers.now ≤ 536870913 }
     requires order { length closing.now.order.items ≤ 536870913 }
     requires lexical { lexical_fault text.now ≡ None }
     requires tokens { tokens.now ≡ map row_of (tokens_of text.now) }
-    ensures { IfOk result (λ v. (r : Tree Prog) → IsParseOf text.now numbers.now r → AreNear (left_parse r) nearest.now.next.items nearest.now.begin.items → AreClosing (left_parse r) closing.now.rows.items closing.now.order.items → AreReads (left_parse r) (leaves r) reads.now → AreRowColumns (marks_in no_token (left_parse r) (leaves r) closing.now.order.items) v.kinds.items v.sizes.items v.tokens.items) }
+    ensures { IfOk result (λ v. (r : Tree Prog) → IsParseOf text.now numbers.now r → AreNear (left_parse r) nearest.now.next.items nearest.now.begin.items → AreClosing (left_parse r) closing.now.rows.items closing.now.order.items → AreReads (left_parse r) (leaves r) (read_of reads.now.owned.items reads.now.sums.items numbers.now) → AreRowColumns (marks_in no_token (left_parse r) (leaves r) closing.now.order.items) v.kinds.items v.sizes.items v.tokens.items) }
 {
     let (next, heads) = (nearest.next.as_slice(), nearest.begin.as_slice());
     let order = closing.order.as_slice();
@@ -150,15 +151,7 @@ fn tree_columns(
         nearest.begin.as_slice(),
     )?;
     let reads = reads(crew, tokens.kinds(), numbers)?;
-    find_columns(
-        crew,
-        text,
-        tokens,
-        numbers,
-        &nearest,
-        &closing,
-        reads.as_slice(),
-    )
+    find_columns(crew, text, tokens, numbers, &nearest, &closing, &reads)
 }
 
 // The least key of the rows' faults.
