@@ -1,5 +1,5 @@
 -- What is read from columns at a place; behind the last place stands the least value.
-use Rattle.std.specs.Prelude.{ℕ, suc, ◌-◌, ◌^◌, Bool, false, ◌&&◌, ◌==◌, nat_lt, List, [], length, take, drop, min, None, slice_index_or, if◌then◌else◌}
+use Rattle.std.specs.Prelude.{ℕ, suc, ◌-◌, Bool, false, ◌&&◌, ◌==◌, nat_lt, List, [], length, take, drop, min, None, slice_index_or, if◌then◌else◌}
 use Rattle.source_meaning.specs.declared.kinds.Kind.{Kind}
 use Rattle.source_meaning.specs.declared.kinds.Terminal.TheVariants.{Ident}
 use Rattle.source_meaning.specs.Lexemes.{Token}
@@ -23,8 +23,8 @@ abbrev pub line_at : List ℕ → ℕ → Production
 line_at numbers k = production_of (slice_index_or numbers k 0)
 
 -- The level of a place, from how many nonterminals the productions before each place open
-abbrev pub level_of : (kids numbers : List ℕ) → ℕ → ℕ
-level_of kids numbers k = min (level (suc (min (slice_index_or kids k 0) (2 ^ 40)) - k) (line_at numbers k)) 4294967295
+abbrev pub level_of : (kids : ℕ → ℕ) → (numbers : List ℕ) → ℕ → ℕ
+level_of kids numbers k = min (level (suc (kids k) - k) (line_at numbers k)) 4294967295
 
 -- whether a cell's statement is an if and the next cell's an else, where the next cell stands where the part right behind ends
 abbrev pub meets_of : (numbers next : List ℕ) → ℕ → Bool
@@ -64,8 +64,8 @@ abbrev pub numbered : ℕ → Token
 numbered number = record { number = number; start = 0; terminal = Ident; lexeme = [] }
 
 -- the number of the token that a production reads first, from how many those before each place read
-abbrev pub read_of : (owned sums numbers : List ℕ) → ℕ → ℕ
-read_of owned sums numbers k = if reads_count (line_at numbers k) == 0 then 0 else slice_index_or owned (slice_index_or sums k 0) 0
+abbrev pub read_of : (owned : List ℕ) → (reads : ℕ → ℕ) → (numbers : List ℕ) → ℕ → ℕ
+read_of owned reads numbers k = if reads_count (line_at numbers k) == 0 then 0 else slice_index_or owned (reads k) 0
 
 -- the number of the token that a row may take from before it, from the one that each production reads first
 abbrev pub taken_of : (numbers : List ℕ) → (read : ℕ → ℕ) → (heads : List ℕ) → ℕ → ℕ

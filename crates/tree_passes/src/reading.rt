@@ -1,19 +1,16 @@
 //! The tokens that productions read, and their lexemes.
 ghost use Rattle.std.specs.Prelude.{◌≡◌, ◌==◌, ◌≤◌, if◌then◌else◌, length, map, take, drop, slice_index_or, IfOk};
-ghost use Rattle.word_monoid.specs.Folds.{prefixes};
-ghost use Rattle.word_monoid.specs.Instances.{count};
-ghost use Rattle.row_laws.specs.Owned.{reads_count};
-ghost use Rattle.tree_passes.specs.Numbers.{production_of};
+ghost use Rattle.tree_passes.specs.Tallies.{reads_in};
 ghost use Rattle.tree_passes.specs.TokensOf.{owned_numbers};
 ghost use Rattle.tree_passes.specs.Reading.{lexeme_of, read_of, taken_of};
 
-use crate::columns::{number, production, sum};
+use crate::columns::{number, production};
 use crate::numbers::{is_call, reads};
 use crate::spelled::is_owned;
-use par_passes::{Lift, Passes};
+use crate::tallies::{Tally, tally_before};
+use par_passes::Passes;
 use source_meaning::Terminal;
 use std::alloc::AllocError;
-use word_monoid::Count;
 
 /// The numbers of the tokens that are own tokens of rows.
 pub(crate) fn owned_all(crew: &impl Passes, kinds: &[Terminal]) -> Result<Vec<u32>, AllocError>
@@ -23,55 +20,31 @@ pub(crate) fn owned_all(crew: &impl Passes, kinds: &[Terminal]) -> Result<Vec<u3
     crew.positions(kinds, &|kind: Terminal| is_owned(kind))
 }
 
-// How many of them a production reads.
-struct Reads;
-
-impl Lift<u16, u64> for Reads {
-    ghost use Rattle.row_laws.specs.Owned.{reads_count};
-    ghost use Rattle.tree_passes.specs.Numbers.{production_of};
-
-    ghost lifted = { λ _ q. reads_count (production_of q) };
-
-    fn lift(&self, number: u16) -> u64 {
-        u64::from(reads(number))
-    }
-}
-
-/// How many of them the productions before each place read.
-pub(crate) fn read_sums(crew: &impl Passes, numbers: &[u16]) -> Result<Vec<u64>, AllocError>
-    requires few { length numbers.now ≤ 536870913 }
-    ensures { IfOk result (λ v. v.items ≡ prefixes count (map (λ q. reads_count (production_of q)) numbers.now)) }
-{
-    crew.scan_lifted(&Count, numbers, &Reads)
-}
-
 /// What tells the tokens that productions read.
 #[derive(Drop)]
 pub(crate) struct TokenReads {
     /// The numbers of the tokens that are own tokens of rows.
     pub(crate) owned: Vec<u32>,
-    /// How many of them the productions before each place read.
-    pub(crate) sums: Vec<u64>,
+    /// The tallies of the productions before each place.
+    pub(crate) tallies: Vec<Tally>,
 }
 
 /// The number of the token that the production at a place reads first, and 0 where it reads none.
 pub(crate) fn read_in(tokens: &TokenReads, numbers: &[u16], place: u32) -> u32
-    ensures { result ≡ read_of tokens.now.owned.items tokens.now.sums.items numbers.now place }
+    ensures { result ≡ read_of tokens.now.owned.items (reads_in tokens.now.tallies.items) numbers.now place }
 {
     let at = place as usize;
     if reads(production(numbers, at)) == 0 {
         0
     } else {
-        number(
-            tokens.owned.as_slice(),
-            sum(tokens.sums.as_slice(), at) as usize,
-        )
+        let before = tally_before(tokens.tallies.as_slice(), at);
+        number(tokens.owned.as_slice(), before.reads as usize)
     }
 }
 
 // The same, and 0 at the first place.
 fn read_behind(tokens: &TokenReads, numbers: &[u16], place: u32) -> u32
-    ensures { result ≡ (if place == 0 then 0 else read_of tokens.now.owned.items tokens.now.sums.items numbers.now place) }
+    ensures { result ≡ (if place == 0 then 0 else read_of tokens.now.owned.items (reads_in tokens.now.tallies.items) numbers.now place) }
 {
     if place == 0 {
         0
@@ -82,7 +55,7 @@ fn read_behind(tokens: &TokenReads, numbers: &[u16], place: u32) -> u32
 
 /// The number of the token that the row at a place may take from before it: that of a call's name, or of the if that an else joins.
 pub(crate) fn taken_in(tokens: &TokenReads, numbers: &[u16], heads: &[u32], place: u32) -> u32
-    ensures { result ≡ taken_of numbers.now (read_of tokens.now.owned.items tokens.now.sums.items numbers.now) heads.now place }
+    ensures { result ≡ taken_of numbers.now (read_of tokens.now.owned.items (reads_in tokens.now.tallies.items) numbers.now) heads.now place }
 {
     if place == 0 {
         return 0;

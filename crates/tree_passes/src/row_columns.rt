@@ -4,6 +4,7 @@ ghost use Rattle.std.specs.List.{range_with_len};
 ghost use Rattle.source_meaning.specs.declared.kinds.Kind.TheVariants.{Program};
 ghost use Rattle.row_laws.specs.Placed.{before_it};
 ghost use Rattle.tree_passes.specs.Reading.{begin_of, in_order, kind_of, read_of, size_of, word_of};
+ghost use Rattle.tree_passes.specs.Tallies.{reads_in};
 
 use crate::columns::{number, production, sum};
 use crate::joining::joins_in;
@@ -24,7 +25,7 @@ fn kind_in(
     next: &[u32],
     place: u32,
 ) -> Kind
-    ensures { result ≡ kind_of text.now starts.now lengths.now (read_of reads.now.owned.items reads.now.sums.items numbers.now) numbers.now next.now place }
+    ensures { result ≡ kind_of text.now starts.now lengths.now (read_of reads.now.owned.items (reads_in reads.now.tallies.items) numbers.now) numbers.now next.now place }
 {
     let at = place as usize;
     let mine = production(numbers, at);
@@ -49,10 +50,10 @@ pub(crate) fn kinds_all(
     order: &[u32],
 ) -> Result<Vec<Kind>, AllocError>
     requires few { length order.now ≤ 536870913 }
-    ensures { IfOk result (λ v. v.items ≡ map (in_order order.now (kind_of text.now starts.now lengths.now (read_of reads.now.owned.items reads.now.sums.items numbers.now) numbers.now next.now) Program) (range_with_len 0 (length order.now + 1))) }
+    ensures { IfOk result (λ v. v.items ≡ map (in_order order.now (kind_of text.now starts.now lengths.now (read_of reads.now.owned.items (reads_in reads.now.tallies.items) numbers.now) numbers.now next.now) Program) (range_with_len 0 (length order.now + 1))) }
 {
     let at = |k: u32| -> Kind
-        ensures { result ≡ in_order order.entry.now (kind_of text.entry.now starts.entry.now lengths.entry.now (read_of reads.entry.now.owned.items reads.entry.now.sums.items numbers.entry.now) numbers.entry.now next.entry.now) Program k }
+        ensures { result ≡ in_order order.entry.now (kind_of text.entry.now starts.entry.now lengths.entry.now (read_of reads.entry.now.owned.items (reads_in reads.entry.now.tallies.items) numbers.entry.now) numbers.entry.now next.entry.now) Program k }
     {
         let k = k as usize;
         if k < order.len() {
@@ -122,7 +123,7 @@ pub(crate) fn sizes_all(
 
 // The word of the own token of the row of the production at a place.
 fn word_in(numbers: &[u16], reads: &TokenReads, next: &[u32], heads: &[u32], place: u32) -> u32
-    ensures { result ≡ word_of numbers.now (read_of reads.now.owned.items reads.now.sums.items numbers.now) next.now heads.now place }
+    ensures { result ≡ word_of numbers.now (read_of reads.now.owned.items (reads_in reads.now.tallies.items) numbers.now) next.now heads.now place }
 {
     match made_by(production(numbers, place as usize)) {
         Shape::Call | Shape::Plain => taken_in(reads, numbers, heads, place),
@@ -148,10 +149,10 @@ pub(crate) fn words_all(
     order: &[u32],
 ) -> Result<Vec<u32>, AllocError>
     requires few { length order.now ≤ 536870913 }
-    ensures { IfOk result (λ v. v.items ≡ map (in_order order.now (word_of numbers.now (read_of reads.now.owned.items reads.now.sums.items numbers.now) next.now heads.now) 4294967295) (range_with_len 0 (length order.now + 1))) }
+    ensures { IfOk result (λ v. v.items ≡ map (in_order order.now (word_of numbers.now (read_of reads.now.owned.items (reads_in reads.now.tallies.items) numbers.now) next.now heads.now) 4294967295) (range_with_len 0 (length order.now + 1))) }
 {
     let at = |k: u32| -> u32
-        ensures { result ≡ in_order order.entry.now (word_of numbers.entry.now (read_of reads.entry.now.owned.items reads.entry.now.sums.items numbers.entry.now) next.entry.now heads.entry.now) 4294967295 k }
+        ensures { result ≡ in_order order.entry.now (word_of numbers.entry.now (read_of reads.entry.now.owned.items (reads_in reads.entry.now.tallies.items) numbers.entry.now) next.entry.now heads.entry.now) 4294967295 k }
     {
         let k = k as usize;
         if k < order.len() {

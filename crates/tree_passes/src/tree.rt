@@ -13,6 +13,7 @@ ghost use Rattle.tree_passes.specs.Columns.{numbers_of};
 ghost use Rattle.row_laws.specs.Faulted.{fault_keys as keys_of};
 ghost use Rattle.tree_passes.specs.LineColumns.{AreNear, AreNumbers, AreReads};
 ghost use Rattle.tree_passes.specs.Reading.{read_of};
+ghost use Rattle.tree_passes.specs.Tallies.{reads_in, tallies_by};
 ghost use Rattle.tree_passes.specs.TokensOf.{no_token};
 ghost use Rattle.tree_passes.specs.TreeColumns.{AreClosing, AreRowColumns, AreSmall, AreTreeColumns, IsLeastKey, IsParseOf};
 ghost use Rattle.tree_passes.specs.declared.fault.ShapeFault.TheVariants.{Diagnostic as Told};
@@ -23,8 +24,9 @@ use crate::joining::{made_all, row_sums};
 use crate::laid::lay;
 use crate::levels::near;
 use crate::ordering::{closed_sums, order};
-use crate::reading::{TokenReads, owned_all, read_sums};
+use crate::reading::{TokenReads, owned_all};
 use crate::row_columns::{kinds_all, sizes_all, words_all};
+use crate::tallies::{Tally, tallies_all};
 use ast_rows::{Rows, Tokens};
 use key_passes::counted;
 use near_stretches::all_nearest;
@@ -57,14 +59,19 @@ fn closing_order(
 }
 
 // What tells the token that each production reads first.
-fn reads(crew: &impl Passes, kinds: &[Terminal], numbers: &[u16]) -> Result<TokenReads, AllocError>
+fn reads(
+    crew: &impl Passes,
+    kinds: &[Terminal],
+    numbers: &[u16],
+    tallies: Vec<Tally>,
+) -> Result<TokenReads, AllocError>
     requires few { length numbers.now ≤ 536870913 }
     requires kinds { length kinds.now ≤ 4294967295 }
-    ensures { IfOk result (λ v. (r : Tree Prog) (text : List ℕ) → IsParseOf text numbers.now r → kinds.now ≡ map (λ t. t.terminal) (map row_of (tokens_of text)) → AreReads (left_parse r) (leaves r) (read_of v.owned.items v.sums.items numbers.now)) }
+    requires tallies { tallies.items ≡ tallies_by numbers.now }
+    ensures { IfOk result (λ v. (r : Tree Prog) (text : List ℕ) → IsParseOf text numbers.now r → kinds.now ≡ map (λ t. t.terminal) (map row_of (tokens_of text)) → AreReads (left_parse r) (leaves r) (read_of v.owned.items (reads_in v.tallies.items) numbers.now)) }
 {
     let owned = owned_all(crew, kinds)?;
-    let sums = read_sums(crew, numbers)?;
-    Ok(TokenReads { owned, sums })
+    Ok(TokenReads { owned, tallies })
 }
 
 // Kinds, sizes and own tokens of the rows.
@@ -90,7 +97,7 @@ fn find_columns(
     requires order { length closing.now.order.items ≤ 536870913 }
     requires lexical { lexical_fault text.now ≡ None }
     requires tokens { tokens.now ≡ map row_of (tokens_of text.now) }
-    ensures { IfOk result (λ v. (r : Tree Prog) → IsParseOf text.now numbers.now r → AreNear (left_parse r) nearest.now.next.items nearest.now.begin.items → AreClosing (left_parse r) closing.now.rows.items closing.now.order.items → AreReads (left_parse r) (leaves r) (read_of reads.now.owned.items reads.now.sums.items numbers.now) → AreRowColumns (marks_in no_token (left_parse r) (leaves r) closing.now.order.items) v.kinds.items v.sizes.items v.tokens.items) }
+    ensures { IfOk result (λ v. (r : Tree Prog) → IsParseOf text.now numbers.now r → AreNear (left_parse r) nearest.now.next.items nearest.now.begin.items → AreClosing (left_parse r) closing.now.rows.items closing.now.order.items → AreReads (left_parse r) (leaves r) (read_of reads.now.owned.items (reads_in reads.now.tallies.items) numbers.now) → AreRowColumns (marks_in no_token (left_parse r) (leaves r) closing.now.order.items) v.kinds.items v.sizes.items v.tokens.items) }
 {
     let (next, heads) = (nearest.next.as_slice(), nearest.begin.as_slice());
     let order = closing.order.as_slice();
@@ -143,14 +150,15 @@ fn tree_columns(
     requires parsed { (r : Tree Prog) × IsParseOf text.now numbers.now r }
     ensures { IfOk result (λ v. (r : Tree Prog) → IsParseOf text.now numbers.now r → AreTreeColumns r v.kinds.items v.sizes.items v.tokens.items) }
 {
-    let nearest = near(crew, numbers)?;
+    let tallies = tallies_all(crew, numbers)?;
+    let nearest = near(crew, tallies.as_slice(), numbers)?;
     let closing = closing_order(
         crew,
         numbers,
         nearest.next.as_slice(),
         nearest.begin.as_slice(),
     )?;
-    let reads = reads(crew, tokens.kinds(), numbers)?;
+    let reads = reads(crew, tokens.kinds(), numbers, tallies)?;
     find_columns(crew, text, tokens, numbers, &nearest, &closing, &reads)
 }
 

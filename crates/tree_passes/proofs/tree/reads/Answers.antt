@@ -5,4 +5,4 @@ use Rattle.tree_passes.proofs.tree.reads.Goals as goal
 
 pub returns : goal.returns
 returns g c = λ r text parse k.
-    reads_are r text c.args.numbers.now c.in_ok-owned.owned.items c.in_ok-sums.sums.items parse.0 (sym parse.1) c.requires.few (c.in_ok-owned.ensures ∙ ap owned_numbers k) c.in_ok-sums.ensures
+    reads_are r text c.args.numbers.now c.in_ok-owned.owned.items c.args.tallies.items parse.0 (sym parse.1) c.requires.few (c.in_ok-owned.ensures ∙ ap owned_numbers k) c.requires.tallies
