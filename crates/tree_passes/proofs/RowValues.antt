@@ -17,7 +17,7 @@ use Rattle.row_laws.specs.Placed.{close_at, joins_at, rows_before, begin_at, bef
 use Rattle.row_laws.proofs.ClosesWithin.{closes_within}
 use Rattle.row_laws.proofs.OwnedPlaces.{number_first}
 use Rattle.row_laws.proofs.ReadTerminals.{terminals_read}
-use Rattle.tree_passes.specs.Shapes.{shape_of, shape_word}
+use Rattle.tree_passes.specs.Shapes.{shape_of, shape_spells, shape_word}
 use Rattle.tree_passes.specs.TokensOf.{no_token, no_token_row, token_by_row, first_by, owned_numbers}
 use Rattle.tree_passes.specs.Reading.{lexeme_of, kind_of, joins_of, word_of, size_of, taken_of, numbered}
 use Rattle.tree_passes.specs.LineColumns.{AreNumbers, AreNear, AreReads}
@@ -26,7 +26,7 @@ use Rattle.tree_passes.proofs.FirstTokens.{first_there}
 use Rattle.tree_passes.proofs.Joined.{joins_is}
 use Rattle.tree_passes.proofs.LevelColumn.{line_there, lines_many}
 use Rattle.tree_passes.proofs.LineColumns.{begin_there, taken_placed, none_is, head_within}
-use Rattle.tree_passes.proofs.MarkColumns.{kind_is, far_other, number_only, is_num, reads_some, rows_few}
+use Rattle.tree_passes.proofs.MarkColumns.{kind_is, far_other, number_only, is_num, reads_some, rows_few, spelled_reads}
 use Rattle.tree_passes.proofs.Ranges.{value_at}
 use Rattle.tree_passes.proofs.TokenFacts.{Each, each_token, each_read, first_digits}
 
@@ -109,11 +109,13 @@ module _ (r : Tree Prog) (text numbers : List ℕ) (is : leaves r ≡ tokens tex
 
   pub kind_there : lexical_fault text ≡ None → (read : ℕ → ℕ) (next heads : List ℕ) → AreReads ps_ ts_ read → AreNear ps_ next heads → (i : ℕ) → i < length ps_ → kind_of text (map (λ r. r.start) (map row_of (tokens text))) (map (λ r. r.length) (map row_of (tokens text))) read numbers next i ≡ (row_at no_token ps_ ts_ i).kind
   kind_there sound read next heads known near i l =
-      (λ j. shape_word (shape_of (line_there ps_ numbers i e j)) (lexeme_of text (map (λ r. r.start) (map row_of (tokens text))) (map (λ r. r.length) (map row_of (tokens text))) (read i))
+      let lexeme : List ℕ = lexeme_of text (map (λ r. r.start) (map row_of (tokens text))) (map (λ r. r.length) (map row_of (tokens text))) (read i) in
+      let spelling : List ℕ = if shape_spells (shape_of (production_at ps_ i)) then lexeme else [] in
+      (λ j. shape_word (shape_of (line_there ps_ numbers i e j)) (if shape_spells (shape_of (line_there ps_ numbers i e j)) then lexeme else [])
       ((type_named (line_there ps_ numbers i e j) (line_there ps_ numbers (get_or next (suc i) 0) e j) (line_there ps_ numbers (suc i) e j))))
-      ∙ ap (shape_word (shape_of (production_at ps_ i)) (lexeme_of text (map (λ r. r.start) (map row_of (tokens text))) (map (λ r. r.length) (map row_of (tokens text))) (read i))) (far_is next heads i near)
-      ∙ kind_is (production_at ps_ i) (lexeme_of text (map (λ r. r.start) (map row_of (tokens text))) (map (λ r. r.length) (map row_of (tokens text))) (read i)) (first_of (reads_at ps_ ts_ i) no_token) (named_at ps_ i) (joins_at ps_ i)
-      (lexeme_is i l read known)
+      ∙ ap (shape_word (shape_of (production_at ps_ i)) spelling) (far_is next heads i near)
+      ∙ kind_is (production_at ps_ i) spelling (first_of (reads_at ps_ ts_ i) no_token) (named_at ps_ i) (joins_at ps_ i)
+      (λ s. ap (λ (b : Bool). if b then lexeme else []) s ∙ lexeme_is i l read known (spelled_reads (production_at ps_ i) s))
       (λ n. first_digits (length text) (reads_at ps_ ts_ i) (each_read (length text) ps_ ts_ i (subst (Each (length text)) (sym is) (each_token text sound))) (first_is (reads_at ps_ ts_ i) (terminals_read r i l ∙ num_reads (production_at ps_ i) n)))
 
   pub word_there : (read : ℕ → ℕ) (next heads : List ℕ) → AreReads ps_ ts_ read → AreNear ps_ next heads → (i : ℕ) → i < length ps_ → word_of numbers read next heads i ≡ token_word (row_at no_token ps_ ts_ i).token

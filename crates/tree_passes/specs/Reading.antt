@@ -15,7 +15,7 @@ use Rattle.row_laws.specs.Along.{has_row, reaches_back, token_by}
 use Rattle.row_laws.specs.Placed.{before_it, joins_by, type_named}
 use Rattle.row_laws.specs.Keyed.{is_made}
 use Rattle.tree_passes.specs.Numbers.{production_of}
-use Rattle.tree_passes.specs.Shapes.{shape_of, shape_word}
+use Rattle.tree_passes.specs.Shapes.{shape_of, shape_spells, shape_word}
 use Rattle.tree_passes.specs.RowFaults.{kind_at}
 
 -- the production at a place
@@ -78,10 +78,14 @@ taken_of numbers read heads k =
 abbrev pub lexeme_of : (text starts lengths : List ℕ) → ℕ → List ℕ
 lexeme_of text starts lengths token = take (slice_index_or lengths token 0) (drop (slice_index_or starts token 0) text)
 
+-- the bytes of the token that a production reads first, where they tell what its row is
+abbrev pub spelling_of : (text starts lengths : List ℕ) → (read : ℕ → ℕ) → (numbers : List ℕ) → ℕ → List ℕ
+spelling_of text starts lengths read numbers i = if shape_spells (shape_of (line_at numbers i)) then lexeme_of text starts lengths (read i) else []
+
 -- the kind of a production's row
 abbrev pub kind_of : (text starts lengths : List ℕ) → (read : ℕ → ℕ) → (numbers next : List ℕ) → ℕ → Kind
 kind_of text starts lengths read numbers next i =
-    shape_word (shape_of (line_at numbers i)) (lexeme_of text starts lengths (read i))
+    shape_word (shape_of (line_at numbers i)) (spelling_of text starts lengths read numbers i)
     (type_named (line_at numbers i) (line_at numbers (slice_index_or next (suc i) 0)) (line_at numbers (suc i)))
 
 -- the word of its own token; none for a statement that is a value

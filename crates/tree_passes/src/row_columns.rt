@@ -3,17 +3,35 @@ ghost use Rattle.std.specs.Prelude.{◌≡◌, ◌+◌, ◌≤◌, ◌<◌, leng
 ghost use Rattle.std.specs.List.{range_with_len};
 ghost use Rattle.source_meaning.specs.declared.kinds.Kind.TheVariants.{Program};
 ghost use Rattle.row_laws.specs.Placed.{before_it};
-ghost use Rattle.tree_passes.specs.Reading.{begin_of, in_order, kind_of, read_of, size_of, word_of};
+ghost use Rattle.tree_passes.specs.Reading.{begin_of, in_order, kind_of, read_of, size_of, spelling_of, word_of};
 ghost use Rattle.tree_passes.specs.Tallies.{reads_in};
 
 use crate::columns::{number, production, sum};
 use crate::joining::joins_in;
-use crate::lines::{begin, kind, named};
+use crate::lines::{begin, is_spelled, kind, named};
 use crate::reading::{TokenReads, lexeme, read_in, taken_in};
 use crate::shapes::{Shape, made_by};
 use par_passes::Passes;
 use source_meaning::Kind;
 use std::alloc::AllocError;
+
+// The bytes of the token that the production at a place reads first, where they tell what its row is.
+fn spelling_in<'a>(
+    text: &'a [u8],
+    starts: &[u32],
+    lengths: &[u32],
+    reads: &TokenReads,
+    numbers: &[u16],
+    place: u32,
+) -> &'a [u8]
+    ensures { result.now ≡ spelling_of text.now starts.now lengths.now (read_of reads.now.owned.items (reads_in reads.now.tallies.items) numbers.now) numbers.now place }
+{
+    if is_spelled(production(numbers, place as usize)) {
+        lexeme(text, starts, lengths, read_in(reads, numbers, place))
+    } else {
+        &[]
+    }
+}
 
 // The kind of the row of the production at a place.
 fn kind_in(
@@ -34,7 +52,7 @@ fn kind_in(
     kind(
         mine,
         named(mine, far, near),
-        lexeme(text, starts, lengths, read_in(reads, numbers, place)),
+        spelling_in(text, starts, lengths, reads, numbers, place),
     )
 }
 
