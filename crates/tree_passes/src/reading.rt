@@ -1,5 +1,5 @@
 //! The tokens that productions read, and their lexemes.
-ghost use Rattle.std.specs.Prelude.{◌≡◌, ◌==◌, ◌≤◌, if◌then◌else◌, length, map, take, drop, slice_index_or, IfOk};
+ghost use Rattle.std.specs.Prelude.{◌≡◌, ◌==◌, ◌≤◌, if◌then◌else◌, length, take, drop, slice_index_or, IfOk};
 ghost use Rattle.tree_passes.specs.Tallies.{reads_in};
 ghost use Rattle.tree_passes.specs.TokensOf.{owned_numbers};
 ghost use Rattle.tree_passes.specs.Reading.{lexeme_of, read_of, taken_of};
