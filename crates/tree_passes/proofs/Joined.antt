@@ -1,6 +1,6 @@
 -- Which else joins which if, and which productions have a row, from columns.
-use Rattle.std.proofs.Common.{◌≡◌, ℕ, zero, suc, ◌+◌, ◌<◌, ◌≤◌, Bool, true, false, List, [], ◌∷◌, length, map, get_or, refl, sym, ap, ◌∙◌, arith}
-use Rattle.std.specs.Prelude.{if◌then◌else◌, ◌&&◌, ◌==◌}
+use Rattle.std.proofs.Common.{◌≡◌, ℕ, zero, suc, ◌+◌, ◌-◌, ◌<◌, ◌≤◌, Bool, true, false, List, [], ◌∷◌, length, map, get_or, Option, Some, None, refl, sym, ap, ◌∙◌, arith}
+use Rattle.std.specs.Prelude.{if◌then◌else◌, ◌&&◌}
 use Rattle.std.specs.List.{range_with_len}
 use Rattle.std.proofs.lemmas.Simd.{map-map}
 use Rattle.source_meaning.specs.Grammar.{Production, right, stmts_some, stmt_if}
@@ -10,16 +10,16 @@ use Rattle.row_laws.specs.Emitted.{is_early, is_else, is_if}
 use Rattle.row_laws.specs.Levels.{kids, levels}
 use Rattle.row_laws.specs.Joins.{is_cell}
 use Rattle.row_laws.specs.Along.{has_row}
-use Rattle.row_laws.specs.Places.{production_at, open_at, next_low}
-use Rattle.row_laws.specs.Placed.{meets_at, joins_at, has_at, rows_before}
+use Rattle.row_laws.specs.Places.{production_at, open_at, behind, next_low}
+use Rattle.row_laws.specs.Placed.{head_at, joins_by, meets_at, met, joins_at, has_at, rows_before}
 use Rattle.row_laws.specs.Keyed.{is_made}
-use Rattle.tree_passes.specs.Reading.{meets_of, joins_of, makes_of}
-use Rattle.tree_passes.specs.LineColumns.{AreNumbers, AreNear, AreMeets, AreHeads, AreJoins}
+use Rattle.tree_passes.specs.Reading.{head_before, joins_of, line_at, makes_of, meets_before, meets_of}
+use Rattle.tree_passes.specs.LineColumns.{AreNumbers, AreNear}
 use Rattle.tree_passes.specs.Orders.{AreMade}
 use Rattle.tree_passes.proofs.LevelColumn.{line_there, lines_many}
-use Rattle.tree_passes.proofs.LineColumns.{joins_placed, none_is}
+use Rattle.tree_passes.proofs.LineColumns.{none_is}
 use Rattle.tree_passes.proofs.Passed.{row_sums, has_bit}
-use Rattle.tree_passes.proofs.Ranges.{same_below, value_at}
+use Rattle.tree_passes.proofs.Ranges.{same_below}
 
 cell_kids : (p : Production) → is_cell p ≡ true → kids (right p) ≡ 2
 cell_kids stmts_some e = refl
@@ -48,32 +48,39 @@ next_is ps next heads i near a b =
     ap (λ (k : ℕ). get_or next k 0) (sym more)
     ∙ near.second i (omega arith) (cell_kids (production_at ps i) a) (ap (λ (k : ℕ). is_early (production_at ps k)) more ∙ if_plain (production_at ps (suc i)) b)
 
-pub meets_is : (ps : List Production) (numbers next heads : List ℕ) (i : ℕ) → AreNumbers ps numbers → AreNear ps next heads → meets_of numbers next i ≡ meets_at ps i
+meets_is : (ps : List Production) (numbers next heads : List ℕ) (i : ℕ) → AreNumbers ps numbers → AreNear ps next heads → meets_of numbers next i ≡ meets_at ps i
 meets_is ps numbers next heads i e near =
     (λ j. is_cell (line_there ps numbers i e j) && (is_if (line_there ps numbers (suc i) e j) && (is_cell (line_there ps numbers (get_or next (suc i) 0) e j) && is_else (line_there ps numbers (suc (get_or next (suc i) 0)) e j))))
     ∙ where_both (is_cell (production_at ps i)) (is_if (production_at ps (suc i))) (λ k. is_cell (production_at ps k) && is_else (production_at ps (suc k))) (get_or next (suc i) 0) (next_low (levels 1 ps) i (open_at 1 ps i + open_at 1 ps i + 1)) (next_is ps next heads i near)
 
-pub meets_are : (ps : List Production) (numbers next heads : List ℕ) (meets : List Bool) → AreNumbers ps numbers → AreNear ps next heads → meets ≡ map (meets_of numbers next) (range_with_len 0 (length numbers)) → AreMeets ps meets
-meets_are ps numbers next heads meets e near is = λ i l. value_at (meets_of numbers next) false (length numbers) meets i is (let m = lines_many ps numbers e in omega arith) ∙ meets_is ps numbers next heads i e near
+before_is : (ps : List Production) (numbers next heads : List ℕ) (i : ℕ) → AreNumbers ps numbers → AreNear ps next heads → meets_before numbers next (suc i) ≡ meets_at ps i
+before_is ps numbers next heads i e near =
+    ap (λ (b : Bool). if b then false else meets_of numbers next (suc i - 1)) (none_is i)
+    ∙ ap (meets_of numbers next) (let f : suc i - 1 ≡ i = omega arith in f)
+    ∙ meets_is ps numbers next heads i e near
 
-joins_is : (ps : List Production) (numbers heads : List ℕ) (meets : List Bool) (i : ℕ) → AreNumbers ps numbers → AreMeets ps meets → AreHeads ps heads → i < length numbers → joins_of numbers meets heads i ≡ joins_at ps i
-joins_is ps numbers heads meets zero e f g l = refl
-joins_is ps numbers heads meets (suc i) e f g l =
-    let other = joins_placed ps numbers meets heads (suc i) (omega arith) l e f g in
-    not_first (suc i == 0) (none_is i) _ _ other
-  where
-    not_first : (b : Bool) → b ≡ false → (x y : Bool) → x ≡ y → (if b then false else x) ≡ y
-    not_first true h x y s = absurd (cc)
-    not_first false h x y s = s
+met_is : (ps : List Production) (numbers next heads : List ℕ) (o : Option ℕ) → AreNumbers ps numbers → AreNear ps next heads → meets_before numbers next (behind o) ≡ met ps o
+met_is ps numbers next heads None e near = refl
+met_is ps numbers next heads (Some j) e near = before_is ps numbers next heads j e near
 
-pub joins_are : (ps : List Production) (numbers heads : List ℕ) (meets joins : List Bool) → AreNumbers ps numbers → AreMeets ps meets → AreHeads ps heads → joins ≡ map (joins_of numbers meets heads) (range_with_len 0 (length numbers)) → AreJoins ps joins
-joins_are ps numbers heads meets joins e f g is = λ i l. let h : i < length numbers = (let m = lines_many ps numbers e in omega arith) in value_at (joins_of numbers meets heads) false (length numbers) joins i is h ∙ joins_is ps numbers heads meets i e f g h
+head_is : (heads : List ℕ) (i : ℕ) → head_before heads (suc i) ≡ get_or heads i 0
+head_is heads i = ap (λ (b : Bool). if b then 0 else get_or heads (suc i - 1) 0) (none_is i) ∙ ap (λ (k : ℕ). get_or heads k 0) (let f : suc i - 1 ≡ i = omega arith in f)
 
-pub made_are : (ps : List Production) (numbers : List ℕ) (joins made : List Bool) → AreNumbers ps numbers → AreJoins ps joins → made ≡ map (makes_of numbers joins) (range_with_len 0 (length numbers)) → AreMade ps made
-made_are ps numbers joins made e f is =
+first_joins : (p : Production) → joins_by p false false ≡ false
+first_joins stmt_if = refl
+first_joins p = refl
+
+pub joins_is : (ps : List Production) (numbers next heads : List ℕ) (i : ℕ) → AreNumbers ps numbers → AreNear ps next heads → i < length ps → joins_of numbers next heads i ≡ joins_at ps i
+joins_is ps numbers next heads zero e near l = first_joins (line_at numbers 0)
+joins_is ps numbers next heads (suc i) e near l =
+    (λ j. joins_by (line_there ps numbers (suc i) e j) (before_is ps numbers next heads i e near j) (meets_before numbers next ((head_is heads i ∙ near.begins i (omega arith)) j)))
+    ∙ ap (joins_by (production_at ps (suc i)) (meets_at ps i)) (met_is ps numbers next heads (head_at ps i) e near)
+
+pub made_are : (ps : List Production) (numbers next heads : List ℕ) (made : List Bool) → AreNumbers ps numbers → AreNear ps next heads → made ≡ map (makes_of numbers next heads) (range_with_len 0 (length numbers)) → AreMade ps made
+made_are ps numbers next heads made e near is =
     is
-    ∙ ap (λ (n : ℕ). map (makes_of numbers joins) (range_with_len 0 n)) (lines_many ps numbers e)
-    ∙ same_below (makes_of numbers joins) (λ i. is_made (has_at ps i)) (length ps) (λ k l. (λ j. is_made (has_row (line_there ps numbers k e j) (f k l j))))
+    ∙ ap (λ (n : ℕ). map (makes_of numbers next heads) (range_with_len 0 n)) (lines_many ps numbers e)
+    ∙ same_below (makes_of numbers next heads) (λ i. is_made (has_at ps i)) (length ps) (λ k l. (λ j. is_made (has_row (line_there ps numbers k e j) (joins_is ps numbers next heads k e near l j))))
 
 pub rows_are : (ps : List Production) (made : List Bool) (rows : List ℕ) → length ps ≤ 536870913 → AreMade ps made → rows ≡ prefixes count (map (λ m. if m then 1 else 0) made) → rows ≡ map (rows_before ps) (range_with_len 0 (suc (length ps)))
 rows_are ps made rows few e is =

@@ -18,7 +18,7 @@ use Rattle.row_laws.specs.Placed.{has_at, joins_at, rows_before, type_named, row
 use Rattle.row_laws.specs.Climbed.{no_mark, mark_at}
 use Rattle.row_laws.specs.Standing.{marks_in}
 use Rattle.row_laws.proofs.Standing.{row_few}
-use Rattle.tree_passes.specs.Shapes.{shape_of, shape_word}
+use Rattle.tree_passes.specs.Shapes.{shape_of, shape_spells, shape_word}
 use Rattle.tree_passes.specs.Spelled.{spelled}
 use Rattle.tree_passes.specs.Columns.{numbers_of}
 use Rattle.tree_passes.specs.Reading.{in_order}
@@ -62,7 +62,15 @@ is_num p = false
 abbrev pub reads_some : Production → Bool
 reads_some p = nat_lt 0 (reads_count p)
 
-pub kind_is : (p : Production) (lexeme : List ℕ) (mine : Token) (ty : ValueType) (joins : Bool) → (reads_some p ≡ true → lexeme ≡ mine.lexeme) → (is_num p ≡ true → decimal_value mine.lexeme ≤ 2147483647) → shape_word (shape_of p) lexeme ty ≡ kind_by p mine ty joins
+pub spelled_reads : (p : Production) → shape_spells (shape_of p) ≡ true → reads_some p ≡ true
+spelled_reads ct_cmp e = refl
+spelled_reads st_add e = refl
+spelled_reads mt_mul e = refl
+spelled_reads u_unop e = refl
+spelled_reads p_num e = refl
+spelled_reads p e = absurd (cc)
+
+pub kind_is : (p : Production) (lexeme : List ℕ) (mine : Token) (ty : ValueType) (joins : Bool) → (shape_spells (shape_of p) ≡ true → lexeme ≡ mine.lexeme) → (is_num p ≡ true → decimal_value mine.lexeme ≤ 2147483647) → shape_word (shape_of p) lexeme ty ≡ kind_by p mine ty joins
 kind_is ct_cmp l k ty joins h g = ap (λ x. Binary (as_cmp (spelled x))) (h refl)
 kind_is st_add l k ty joins h g = ap (λ x. Binary (as_add (spelled x))) (h refl)
 kind_is mt_mul l k ty joins h g = ap (λ x. Binary (as_mul (spelled x))) (h refl)

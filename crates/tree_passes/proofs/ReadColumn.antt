@@ -1,39 +1,34 @@
 -- The token that each production reads first, from sums of counts.
-use Rattle.std.proofs.Common.{◌≡◌, ℕ, suc, ◌≤◌, Bool, true, false, List, length, map, get_or, refl, sym, ap, ◌∙◌, arith}
+use Rattle.std.proofs.Common.{◌≡◌, ℕ, ◌≤◌, Bool, true, false, List, length, map, get_or, refl, sym, ap, ◌∙◌, arith}
 use Rattle.std.specs.Prelude.{if◌then◌else◌, ◌==◌}
-use Rattle.std.specs.List.{range_with_len}
 use Rattle.source_meaning.specs.Lexemes.{Token, tokens}
 use Rattle.source_meaning.specs.Grammar.{Prog, Tree, leaves, left_parse}
-use Rattle.word_monoid.specs.Folds.{prefixes}
-use Rattle.word_monoid.specs.Instances.{count}
 use Rattle.ast_rows.specs.TokenRows.{row_of}
 use Rattle.row_laws.specs.Owned.{reads_count}
 use Rattle.row_laws.specs.Places.{production_at}
 use Rattle.row_laws.specs.Placed.{reads_at, reads_from}
 use Rattle.row_laws.proofs.OwnedPlaces.{number_first}
-use Rattle.tree_passes.specs.Numbers.{production_of}
+use Rattle.tree_passes.specs.Tallies.{reads_in, tallies_by}
+use Rattle.tree_passes.specs.declared.tallies.Tally.{Tally}
 use Rattle.tree_passes.specs.TokensOf.{no_token, token_by_row, owned_numbers}
 use Rattle.tree_passes.specs.LineColumns.{AreNumbers, AreReads}
 use Rattle.tree_passes.specs.Reading.{read_of}
 use Rattle.tree_passes.proofs.FirstTokens.{first_there}
 use Rattle.tree_passes.proofs.LevelColumn.{line_there, lines_many}
-use Rattle.tree_passes.proofs.Passed.{read_sums}
-use Rattle.tree_passes.proofs.Ranges.{value_at}
+use Rattle.tree_passes.proofs.Tallied.{reads_are as before_are}
 
 number_by : (b : Bool) (t : Token) → (if b then 0 else t.number) ≡ (if b then no_token else t).number
 number_by true t = refl
 number_by false t = refl
 
-pub reads_are : (r : Tree Prog) (text numbers owned sums reads : List ℕ) → leaves r ≡ tokens text → AreNumbers (left_parse r) numbers → length numbers ≤ 536870913 →
-    owned ≡ owned_numbers (map (λ t. t.terminal) (map row_of (tokens text))) → sums ≡ prefixes count (map (λ q. reads_count (production_of q)) numbers) → reads ≡ map (read_of owned sums numbers) (range_with_len 0 (length numbers)) → AreReads (left_parse r) (leaves r) reads
-reads_are r text numbers owned sums reads is e few a b v i l =
+pub reads_are : (r : Tree Prog) (text numbers owned : List ℕ) (column : List Tally) → leaves r ≡ tokens text → AreNumbers (left_parse r) numbers → length numbers ≤ 536870913 →
+    owned ≡ owned_numbers (map (λ t. t.terminal) (map row_of (tokens text))) → column ≡ tallies_by numbers → AreReads (left_parse r) (leaves r) (read_of owned (reads_in column) numbers)
+reads_are r text numbers owned column is e few a b i l =
     let ps = left_parse r in
     let many = lines_many ps numbers e in
-    let sums_are : sums ≡ map (reads_from ps) (range_with_len 0 (suc (length ps))) = b ∙ ap (λ l. prefixes count (map (λ q. reads_count (production_of q)) l)) e ∙ read_sums ps (omega arith) in
     let rows = map row_of (tokens text) in
-    let from : get_or sums i 0 ≡ reads_from ps i = value_at (reads_from ps) 0 (suc (length ps)) sums i sums_are (omega arith) in
-    value_at (read_of owned sums numbers) 0 (length numbers) reads i v (omega arith)
-    ∙ (λ j. if reads_count (line_there ps numbers i e j) == 0 then 0 else get_or (a j) (from j) 0)
+    let from : reads_in column i ≡ reads_from ps i = before_are ps numbers column e (omega arith) b i (omega arith) in
+    (λ j. if reads_count (line_there ps numbers i e j) == 0 then 0 else get_or (a j) (from j) 0)
     ∙ number_by (reads_count (production_at ps i) == 0) (token_by_row text rows (get_or (owned_numbers (map (λ t. t.terminal) rows)) (reads_from ps i) 0))
     ∙ ap (λ (t : Token). t.number) (sym (first_there text r is i l))
     ∙ sym (number_first no_token (reads_at ps (leaves r) i) refl)

@@ -17,15 +17,16 @@ use Rattle.row_laws.specs.Placed.{close_at, joins_at, rows_before, begin_at, bef
 use Rattle.row_laws.proofs.ClosesWithin.{closes_within}
 use Rattle.row_laws.proofs.OwnedPlaces.{number_first}
 use Rattle.row_laws.proofs.ReadTerminals.{terminals_read}
-use Rattle.tree_passes.specs.Shapes.{shape_of, shape_word}
+use Rattle.tree_passes.specs.Shapes.{shape_of, shape_spells, shape_word}
 use Rattle.tree_passes.specs.TokensOf.{no_token, no_token_row, token_by_row, first_by, owned_numbers}
-use Rattle.tree_passes.specs.Reading.{lexeme_of, kind_of, word_of, size_of, taken_of, numbered}
-use Rattle.tree_passes.specs.LineColumns.{AreNumbers, AreNear, AreHeads, AreJoins, AreReads}
+use Rattle.tree_passes.specs.Reading.{lexeme_of, kind_of, joins_of, word_of, size_of, taken_of, numbered}
+use Rattle.tree_passes.specs.LineColumns.{AreNumbers, AreNear, AreReads}
 use Rattle.tree_passes.proofs.Followed.{is_fn, fn_followed}
 use Rattle.tree_passes.proofs.FirstTokens.{first_there}
+use Rattle.tree_passes.proofs.Joined.{joins_is}
 use Rattle.tree_passes.proofs.LevelColumn.{line_there, lines_many}
 use Rattle.tree_passes.proofs.LineColumns.{begin_there, taken_placed, none_is, head_within}
-use Rattle.tree_passes.proofs.MarkColumns.{kind_is, far_other, number_only, is_num, reads_some, rows_few}
+use Rattle.tree_passes.proofs.MarkColumns.{kind_is, far_other, number_only, is_num, reads_some, rows_few, spelled_reads}
 use Rattle.tree_passes.proofs.Ranges.{value_at}
 use Rattle.tree_passes.proofs.TokenFacts.{Each, each_token, each_read, first_digits}
 
@@ -94,8 +95,8 @@ module _ (r : Tree Prog) (text numbers : List ℕ) (is : leaves r ≡ tokens tex
           ∙ near.third i (let l = g.1 in omega arith) (fn_kids (production_at ps_ i) f) (ap (λ (k : ℕ). is_early (production_at ps_ k)) more ∙ g.0))
       by false f = far_other (production_at ps_ i) (production_at ps_ (get_or next (suc i) 0)) (production_at ps_ (next_low (levels 1 ps_) i (open_at 1 ps_ i + open_at 1 ps_ i + 3))) (production_at ps_ (suc i)) f
 
-  lexeme_is : (i : ℕ) → i < length ps_ → (reads : List ℕ) → AreReads ps_ ts_ reads → reads_some (production_at ps_ i) ≡ true → lexeme_of text (map (λ r. r.start) (map row_of (tokens text))) (map (λ r. r.length) (map row_of (tokens text))) (get_or reads i 0) ≡ (first_of (reads_at ps_ ts_ i) no_token).lexeme
-  lexeme_is i l reads known some =
+  lexeme_is : (i : ℕ) → i < length ps_ → (read : ℕ → ℕ) → AreReads ps_ ts_ read → reads_some (production_at ps_ i) ≡ true → lexeme_of text (map (λ r. r.start) (map row_of (tokens text))) (map (λ r. r.length) (map row_of (tokens text))) (read i) ≡ (first_of (reads_at ps_ ts_ i) no_token).lexeme
+  lexeme_is i l read known some =
       ap (lexeme_of text (map (λ r. r.start) (map row_of (tokens text))) (map (λ r. r.length) (map row_of (tokens text)))) (known i l ∙ number_first no_token (reads_at ps_ ts_ i) refl)
       ∙ lexeme_back text (map row_of (tokens text)) (first_of (reads_at ps_ ts_ i) no_token) (get_or (owned_numbers (map (λ r. r.terminal) (map row_of (tokens text)))) (reads_from ps_ i) 0)
       (first_there text r is i l ∙ taken (reads_count (production_at ps_ i) == 0) (none some) refl)
@@ -106,30 +107,32 @@ module _ (r : Tree Prog) (text numbers : List ℕ) (is : leaves r ≡ tokens tex
       taken : (b : Bool) → b ≡ false → (reads_count (production_at ps_ i) == 0) ≡ b → first_by text (map row_of (tokens text)) (production_at ps_ i) (reads_from ps_ i) ≡ token_by_row text (map row_of (tokens text)) (get_or (owned_numbers (map (λ r. r.terminal) (map row_of (tokens text)))) (reads_from ps_ i) 0)
       taken b f g = ap (λ (b : Bool). if b then no_token else token_by_row text (map row_of (tokens text)) (get_or (owned_numbers (map (λ r. r.terminal) (map row_of (tokens text)))) (reads_from ps_ i) 0)) (g ∙ f)
 
-  pub kind_there : lexical_fault text ≡ None → (reads next heads : List ℕ) → AreReads ps_ ts_ reads → AreNear ps_ next heads → (i : ℕ) → i < length ps_ → kind_of text (map (λ r. r.start) (map row_of (tokens text))) (map (λ r. r.length) (map row_of (tokens text))) reads numbers next i ≡ (row_at no_token ps_ ts_ i).kind
-  kind_there sound reads next heads known near i l =
-      (λ j. shape_word (shape_of (line_there ps_ numbers i e j)) (lexeme_of text (map (λ r. r.start) (map row_of (tokens text))) (map (λ r. r.length) (map row_of (tokens text))) (get_or reads i 0))
+  pub kind_there : lexical_fault text ≡ None → (read : ℕ → ℕ) (next heads : List ℕ) → AreReads ps_ ts_ read → AreNear ps_ next heads → (i : ℕ) → i < length ps_ → kind_of text (map (λ r. r.start) (map row_of (tokens text))) (map (λ r. r.length) (map row_of (tokens text))) read numbers next i ≡ (row_at no_token ps_ ts_ i).kind
+  kind_there sound read next heads known near i l =
+      let lexeme : List ℕ = lexeme_of text (map (λ r. r.start) (map row_of (tokens text))) (map (λ r. r.length) (map row_of (tokens text))) (read i) in
+      let spelling : List ℕ = if shape_spells (shape_of (production_at ps_ i)) then lexeme else [] in
+      (λ j. shape_word (shape_of (line_there ps_ numbers i e j)) (if shape_spells (shape_of (line_there ps_ numbers i e j)) then lexeme else [])
       ((type_named (line_there ps_ numbers i e j) (line_there ps_ numbers (get_or next (suc i) 0) e j) (line_there ps_ numbers (suc i) e j))))
-      ∙ ap (shape_word (shape_of (production_at ps_ i)) (lexeme_of text (map (λ r. r.start) (map row_of (tokens text))) (map (λ r. r.length) (map row_of (tokens text))) (get_or reads i 0))) (far_is next heads i near)
-      ∙ kind_is (production_at ps_ i) (lexeme_of text (map (λ r. r.start) (map row_of (tokens text))) (map (λ r. r.length) (map row_of (tokens text))) (get_or reads i 0)) (first_of (reads_at ps_ ts_ i) no_token) (named_at ps_ i) (joins_at ps_ i)
-      (lexeme_is i l reads known)
+      ∙ ap (shape_word (shape_of (production_at ps_ i)) spelling) (far_is next heads i near)
+      ∙ kind_is (production_at ps_ i) spelling (first_of (reads_at ps_ ts_ i) no_token) (named_at ps_ i) (joins_at ps_ i)
+      (λ s. ap (λ (b : Bool). if b then lexeme else []) s ∙ lexeme_is i l read known (spelled_reads (production_at ps_ i) s))
       (λ n. first_digits (length text) (reads_at ps_ ts_ i) (each_read (length text) ps_ ts_ i (subst (Each (length text)) (sym is) (each_token text sound))) (first_is (reads_at ps_ ts_ i) (terminals_read r i l ∙ num_reads (production_at ps_ i) n)))
 
-  pub word_there : (reads heads : List ℕ) (joins : List Bool) → AreReads ps_ ts_ reads → AreHeads ps_ heads → AreJoins ps_ joins → (i : ℕ) → i < length ps_ → word_of numbers reads joins heads i ≡ token_word (row_at no_token ps_ ts_ i).token
-  word_there reads heads joins known near met i l =
-      (λ j. token_word (token_by (line_there ps_ numbers i e j) (numbered (known i l j)) (taken_is i l j) (met i l j) None))
+  pub word_there : (read : ℕ → ℕ) (next heads : List ℕ) → AreReads ps_ ts_ read → AreNear ps_ next heads → (i : ℕ) → i < length ps_ → word_of numbers read next heads i ≡ token_word (row_at no_token ps_ ts_ i).token
+  word_there read next heads known near i l =
+      (λ j. token_word (token_by (line_there ps_ numbers i e j) (numbered (known i l j)) (taken_is i l j) (joins_is ps_ numbers next heads i e near l j) None))
       ∙ ap token_word (number_only (production_at ps_ i) (numbered (read_at ps_ ts_ i)) (first_of (reads_at ps_ ts_ i) no_token) (taken_at ps_ ts_ i) (joins_at ps_ i) (number_first no_token (reads_at ps_ ts_ i) refl))
     where
       not_first : (b : Bool) → b ≡ false → (x y : ℕ) → x ≡ y → (if b then 0 else x) ≡ y
       not_first true h x y s = absurd (cc)
       not_first false h x y s = s
 
-      taken_is : (i : ℕ) → i < length ps_ → taken_of numbers reads heads i ≡ taken_at ps_ ts_ i
+      taken_is : (i : ℕ) → i < length ps_ → taken_of numbers read heads i ≡ taken_at ps_ ts_ i
       taken_is zero l = refl
-      taken_is (suc i) l = not_first (suc i == 0) (none_is i) _ _ (taken_placed ps_ ts_ numbers reads heads (suc i) (omega arith) (let m = lines_many ps_ numbers e in omega arith) e known near)
+      taken_is (suc i) l = not_first (suc i == 0) (none_is i) _ _ (taken_placed ps_ ts_ numbers read heads (suc i) (omega arith) (let m = lines_many ps_ numbers e in omega arith) e known near.begins)
 
-  pub size_there : length ps_ ≤ 536870913 → (rows next heads : List ℕ) (joins : List Bool) → rows ≡ map (rows_before ps_) (range_with_len 0 (suc (length ps_))) → AreNear ps_ next heads → AreJoins ps_ joins → (i : ℕ) → i < length ps_ → size_of rows next numbers joins heads i ≡ (row_at no_token ps_ ts_ i).size
-  size_there few rows next heads joins known near met i l =
-      (λ j. min (get_or rows (near.closes i l j) 0 - get_or rows (begin_there ps_ numbers joins heads i e met near.begins (let m = lines_many ps_ numbers e in omega arith) j) 0) 4294967295)
+  pub size_there : length ps_ ≤ 536870913 → (rows next heads : List ℕ) → rows ≡ map (rows_before ps_) (range_with_len 0 (suc (length ps_))) → AreNear ps_ next heads → (i : ℕ) → i < length ps_ → size_of rows next numbers heads i ≡ (row_at no_token ps_ ts_ i).size
+  size_there few rows next heads known near i l =
+      (λ j. min (get_or rows (near.closes i l j) 0 - get_or rows (begin_there ps_ numbers heads i (joins_of numbers next heads i) (joins_is ps_ numbers next heads i e near l) e near.begins l j) 0) 4294967295)
       ∙ (λ j. min (value_at (rows_before ps_) 0 (suc (length ps_)) rows (close_at ps_ i) known (let w = closes_within r i l in omega arith) j - value_at (rows_before ps_) 0 (suc (length ps_)) rows (begin_at ps_ i) known (let w = begins_within ps_ i in omega arith) j) 4294967295)
       ∙ (let a = rows_few ps_ (close_at ps_ i) in let f : min (rows_before ps_ (close_at ps_ i) - rows_before ps_ (begin_at ps_ i)) 4294967295 ≡ rows_before ps_ (close_at ps_ i) - rows_before ps_ (begin_at ps_ i) = omega arith in f)

@@ -1,5 +1,5 @@
 -- The columns of a tree's rows, from what is known of its productions.
-use Rattle.std.proofs.Common.{◌≡◌, ℕ, ◌+◌, ◌<◌, ◌≤◌, Bool, All, List, length, map, Option, Some, None, refl, sym, ap, ◌∙◌, subst, arith}
+use Rattle.std.proofs.Common.{◌≡◌, ℕ, ◌+◌, ◌<◌, ◌≤◌, All, List, length, map, Option, Some, None, refl, sym, ap, ◌∙◌, subst, arith}
 use Rattle.std.specs.List.{range_with_len}
 use Rattle.std.proofs.lemmas.List.{length-map}
 use Rattle.source_meaning.specs.declared.kinds.Kind.{Kind}
@@ -42,44 +42,44 @@ column_of ps ts order below f whole h m n = column_is no_token ps ts order f who
 
 pub columns_are : (r : Tree Prog) (text numbers : List ℕ) → IsParseOf text numbers r → lexical_fault text ≡ None → length text ≤ 16777216 →
     (rows_ : List TokenRow) (starts lengths : List ℕ) → rows_ ≡ map row_of (tokens text) → starts ≡ map (λ t. t.start) rows_ → lengths ≡ map (λ t. t.length) rows_ →
-    (next heads : List ℕ) (joins : List Bool) (rows order reads : List ℕ) → AreNear (left_parse r) next heads → AreClosing (left_parse r) joins rows order → AreReads (left_parse r) (leaves r) reads →
+    (next heads rows order : List ℕ) (read : ℕ → ℕ) → AreNear (left_parse r) next heads → AreClosing (left_parse r) rows order → AreReads (left_parse r) (leaves r) read →
     (kinds : List Kind) (sizes words tokens_ : List ℕ) →
-    kinds ≡ map (in_order order (kind_of text starts lengths reads numbers next) ProgramKind) (range_with_len 0 (length order + 1)) →
-    sizes ≡ map (in_order order (size_of rows next numbers joins heads) (length order + 1)) (range_with_len 0 (length order + 1)) →
-    words ≡ map (in_order order (word_of numbers reads joins heads) 4294967295) (range_with_len 0 (length order + 1)) →
+    kinds ≡ map (in_order order (kind_of text starts lengths read numbers next) ProgramKind) (range_with_len 0 (length order + 1)) →
+    sizes ≡ map (in_order order (size_of rows next numbers heads) (length order + 1)) (range_with_len 0 (length order + 1)) →
+    words ≡ map (in_order order (word_of numbers read next heads) 4294967295) (range_with_len 0 (length order + 1)) →
     tokens_ ≡ map (settled_of kinds words) (range_with_len 0 (length kinds)) → AreRowColumns (marks_in no_token (left_parse r) (leaves r) order) kinds sizes tokens_
-columns_are r text numbers is sound small rows_ starts lengths g a b next heads joins rows order reads near closing known kinds sizes words tokens_ k s w t =
+columns_are r text numbers is sound small rows_ starts lengths g a b next heads rows order read near closing known kinds sizes words tokens_ k s w t =
     let ps = left_parse r in
     let e : AreNumbers ps numbers = sym is.1 in
     let few = parse_few r text is.0 small in
-    let kinds_ = k ∙ (λ i. map (in_order order (kind_of text ((a ∙ ap (map (λ (t : TokenRow). t.start)) g) i) ((b ∙ ap (map (λ (t : TokenRow). t.length)) g) i) reads numbers next) ProgramKind) (range_with_len 0 (length order + 1))) ∙ column_of ps (leaves r) order closing.ordered.below (kind_of text (map (λ t. t.start) (map row_of (tokens text))) (map (λ t. t.length) (map row_of (tokens text))) reads numbers next) ProgramKind (λ m. m.kind) (kind_there r text numbers is.0 e sound reads next heads known near) refl in
-    let words_ = w ∙ column_of ps (leaves r) order closing.ordered.below (word_of numbers reads joins heads) 4294967295 (λ m. token_word m.token) (word_there r text numbers is.0 e reads heads joins known near.begins closing.joins_are) refl in
+    let kinds_ = k ∙ (λ i. map (in_order order (kind_of text ((a ∙ ap (map (λ (t : TokenRow). t.start)) g) i) ((b ∙ ap (map (λ (t : TokenRow). t.length)) g) i) read numbers next) ProgramKind) (range_with_len 0 (length order + 1))) ∙ column_of ps (leaves r) order closing.ordered.below (kind_of text (map (λ t. t.start) (map row_of (tokens text))) (map (λ t. t.length) (map row_of (tokens text))) read numbers next) ProgramKind (λ m. m.kind) (kind_there r text numbers is.0 e sound read next heads known near) refl in
+    let words_ = w ∙ column_of ps (leaves r) order closing.ordered.below (word_of numbers read next heads) 4294967295 (λ m. token_word m.token) (word_there r text numbers is.0 e read next heads known near) refl in
     record {
       kinds_are = kinds_;
-      sizes_are = s ∙ column_of ps (leaves r) order closing.ordered.below (size_of rows next numbers joins heads) (length order + 1) (λ m. m.size) (size_there r text numbers is.0 e few rows next heads joins closing.rows_are near closing.joins_are) refl;
+      sizes_are = s ∙ column_of ps (leaves r) order closing.ordered.below (size_of rows next numbers heads) (length order + 1) (λ m. m.size) (size_there r text numbers is.0 e few rows next heads closing.rows_are near) refl;
       tokens_are = t ∙ tokens_settled r text is.0 sound small few order closing.ordered kinds words kinds_ words_;
     }
 
 -- the same from slices of the columns
 pub columns_by : (r : Tree Prog) (text numbers : List ℕ) → IsParseOf text numbers r → lexical_fault text ≡ None → length text ≤ 16777216 →
     (rows_ : List TokenRow) (starts lengths : List ℕ) → rows_ ≡ map row_of (tokens text) → starts ≡ map (λ t. t.start) rows_ → lengths ≡ map (λ t. t.length) rows_ →
-    (next heads : List ℕ) (joins : List Bool) (rows order reads : List ℕ) → AreNear (left_parse r) next heads → AreClosing (left_parse r) joins rows order → AreReads (left_parse r) (leaves r) reads →
-    (next_ heads_ : List ℕ) (joins_ : List Bool) (rowsums order_ : List ℕ) → next_ ≡ next → heads_ ≡ heads → joins_ ≡ joins → rowsums ≡ rows → order_ ≡ order →
+    (next heads rows order : List ℕ) (read : ℕ → ℕ) → AreNear (left_parse r) next heads → AreClosing (left_parse r) rows order → AreReads (left_parse r) (leaves r) read →
+    (next_ heads_ rowsums order_ : List ℕ) → next_ ≡ next → heads_ ≡ heads → rowsums ≡ rows → order_ ≡ order →
     (kinds : List Kind) (sizes words tokens_ : List ℕ) →
-    kinds ≡ map (in_order order_ (kind_of text starts lengths reads numbers next_) ProgramKind) (range_with_len 0 (length order_ + 1)) →
-    sizes ≡ map (in_order order_ (size_of rowsums next_ numbers joins_ heads_) (length order_ + 1)) (range_with_len 0 (length order_ + 1)) →
-    words ≡ map (in_order order_ (word_of numbers reads joins_ heads_) 4294967295) (range_with_len 0 (length order_ + 1)) →
+    kinds ≡ map (in_order order_ (kind_of text starts lengths read numbers next_) ProgramKind) (range_with_len 0 (length order_ + 1)) →
+    sizes ≡ map (in_order order_ (size_of rowsums next_ numbers heads_) (length order_ + 1)) (range_with_len 0 (length order_ + 1)) →
+    words ≡ map (in_order order_ (word_of numbers read next_ heads_) 4294967295) (range_with_len 0 (length order_ + 1)) →
     (kinds_ : List Kind) (words_ : List ℕ) → kinds_ ≡ kinds → words_ ≡ words →
     tokens_ ≡ map (settled_of kinds_ words_) (range_with_len 0 (length kinds_)) → AreRowColumns (marks_in no_token (left_parse r) (leaves r) order) kinds sizes tokens_
-columns_by r text numbers is sound small rows_ starts lengths g a b next heads joins rows order reads near closing known next_ heads_ joins_ rowsums order_ n h j q o kinds sizes words tokens_ k s w kinds_ words_ u v t =
-    columns_are r text numbers is sound small rows_ starts lengths g a b next heads joins rows order reads near closing known kinds sizes words tokens_
-    (k ∙ (λ i. map (in_order (o i) (kind_of text starts lengths reads numbers (n i)) ProgramKind) (range_with_len 0 (length (o i) + 1))))
-    (s ∙ (λ i. map (in_order (o i) (size_of (q i) (n i) numbers (j i) (h i)) (length (o i) + 1)) (range_with_len 0 (length (o i) + 1))))
-    (w ∙ (λ i. map (in_order (o i) (word_of numbers reads (j i) (h i)) 4294967295) (range_with_len 0 (length (o i) + 1))))
+columns_by r text numbers is sound small rows_ starts lengths g a b next heads rows order read near closing known next_ heads_ rowsums order_ n h q o kinds sizes words tokens_ k s w kinds_ words_ u v t =
+    columns_are r text numbers is sound small rows_ starts lengths g a b next heads rows order read near closing known kinds sizes words tokens_
+    (k ∙ (λ i. map (in_order (o i) (kind_of text starts lengths read numbers (n i)) ProgramKind) (range_with_len 0 (length (o i) + 1))))
+    (s ∙ (λ i. map (in_order (o i) (size_of (q i) (n i) numbers (h i)) (length (o i) + 1)) (range_with_len 0 (length (o i) + 1))))
+    (w ∙ (λ i. map (in_order (o i) (word_of numbers read (n i) (h i)) 4294967295) (range_with_len 0 (length (o i) + 1))))
     (t ∙ (λ i. map (settled_of (u i) (v i)) (range_with_len 0 (length (u i)))))
 
-pub tree_columns_are : (r : Tree Prog) (text numbers : List ℕ) → IsParseOf text numbers r → lexical_fault text ≡ None → length text ≤ 16777216 → (joins : List Bool) (rows order : List ℕ) → AreClosing (left_parse r) joins rows order → (kinds : List Kind) (sizes tokens_ : List ℕ) → AreRowColumns (marks_in no_token (left_parse r) (leaves r) order) kinds sizes tokens_ → AreTreeColumns r kinds sizes tokens_
-tree_columns_are r text numbers is sound small joins rows order closing kinds sizes tokens_ known =
+pub tree_columns_are : (r : Tree Prog) (text numbers : List ℕ) → IsParseOf text numbers r → lexical_fault text ≡ None → length text ≤ 16777216 → (rows order : List ℕ) → AreClosing (left_parse r) rows order → (kinds : List Kind) (sizes tokens_ : List ℕ) → AreRowColumns (marks_in no_token (left_parse r) (leaves r) order) kinds sizes tokens_ → AreTreeColumns r kinds sizes tokens_
+tree_columns_are r text numbers is sound small rows order closing kinds sizes tokens_ known =
     let ps = left_parse r in
     let few = parse_few r text is.0 small in
     let tiny = marks_small r text is.0 sound small few order closing.ordered in

@@ -1,5 +1,5 @@
 -- What is read from columns at a place; behind the last place stands the least value.
-use Rattle.std.specs.Prelude.{ℕ, suc, ◌-◌, ◌^◌, Bool, false, ◌&&◌, ◌==◌, nat_lt, List, [], length, take, drop, min, None, slice_index_or, if◌then◌else◌}
+use Rattle.std.specs.Prelude.{ℕ, suc, ◌-◌, Bool, false, ◌&&◌, ◌==◌, nat_lt, List, [], length, take, drop, min, None, slice_index_or, if◌then◌else◌}
 use Rattle.source_meaning.specs.declared.kinds.Kind.{Kind}
 use Rattle.source_meaning.specs.declared.kinds.Terminal.TheVariants.{Ident}
 use Rattle.source_meaning.specs.Lexemes.{Token}
@@ -15,7 +15,7 @@ use Rattle.row_laws.specs.Along.{has_row, reaches_back, token_by}
 use Rattle.row_laws.specs.Placed.{before_it, joins_by, type_named}
 use Rattle.row_laws.specs.Keyed.{is_made}
 use Rattle.tree_passes.specs.Numbers.{production_of}
-use Rattle.tree_passes.specs.Shapes.{shape_of, shape_word}
+use Rattle.tree_passes.specs.Shapes.{shape_of, shape_spells, shape_word}
 use Rattle.tree_passes.specs.RowFaults.{kind_at}
 
 -- the production at a place
@@ -23,8 +23,8 @@ abbrev pub line_at : List ℕ → ℕ → Production
 line_at numbers k = production_of (slice_index_or numbers k 0)
 
 -- The level of a place, from how many nonterminals the productions before each place open
-abbrev pub level_of : (kids numbers : List ℕ) → ℕ → ℕ
-level_of kids numbers k = min (level (suc (min (slice_index_or kids k 0) (2 ^ 40)) - k) (line_at numbers k)) 4294967295
+abbrev pub level_of : (kids : ℕ → ℕ) → (numbers : List ℕ) → ℕ → ℕ
+level_of kids numbers k = min (level (suc (kids k) - k) (line_at numbers k)) 4294967295
 
 -- whether a cell's statement is an if and the next cell's an else, where the next cell stands where the part right behind ends
 abbrev pub meets_of : (numbers next : List ℕ) → ℕ → Bool
@@ -32,30 +32,28 @@ meets_of numbers next k =
     let j = slice_index_or next (suc k) 0 in
     is_cell (line_at numbers k) && (is_if (line_at numbers (suc k)) && (is_cell (line_at numbers j) && is_else (line_at numbers (suc j))))
 
+-- whether the cell right before a place meets; none stands before the first
+abbrev pub meets_before : (numbers next : List ℕ) → ℕ → Bool
+meets_before numbers next k = if k == 0 then false else meets_of numbers next (k - 1)
+
+-- what stands behind the head of the production right before a place
+abbrev pub head_before : (heads : List ℕ) → ℕ → ℕ
+head_before heads k = if k == 0 then 0 else slice_index_or heads (k - 1) 0
+
 -- whether an else joins
-abbrev pub joins_of : (numbers : List ℕ) → List Bool → (heads : List ℕ) → ℕ → Bool
-joins_of numbers meets heads k =
-    let head = slice_index_or heads (k - 1) 0 in
-    if k == 0 then false
-    else joins_by (line_at numbers k) (slice_index_or meets (k - 1) false) (if head == 0 then false else slice_index_or meets (head - 1) false)
+abbrev pub joins_of : (numbers next heads : List ℕ) → ℕ → Bool
+joins_of numbers next heads k = joins_by (line_at numbers k) (meets_before numbers next k) (meets_before numbers next (head_before heads k))
 
 -- whether a production has a row
-abbrev pub makes_of : (numbers : List ℕ) → List Bool → ℕ → Bool
-makes_of numbers joins k = is_made (has_row (line_at numbers k) (slice_index_or joins k false))
+abbrev pub makes_of : (numbers next heads : List ℕ) → ℕ → Bool
+makes_of numbers next heads k = is_made (has_row (line_at numbers k) (joins_of numbers next heads k))
 
 -- where the subtree of a row begins
-abbrev pub begin_of : (numbers : List ℕ) → List Bool → (heads : List ℕ) → ℕ → ℕ
-begin_of numbers joins heads k =
-    if reaches_back (line_at numbers k) (slice_index_or joins k false)
+abbrev pub begin_of : (numbers next heads : List ℕ) → ℕ → ℕ
+begin_of numbers next heads k =
+    if reaches_back (line_at numbers k) (joins_of numbers next heads k)
     then (if is_else (line_at numbers k) then slice_index_or heads (before_it k) 0 else slice_index_or heads k 0)
     else k
-
--- the number of the token that a row may take from before it
-abbrev pub taken_of : (numbers reads heads : List ℕ) → ℕ → ℕ
-taken_of numbers reads heads k =
-    let head = slice_index_or heads (k - 1) 0 in
-    if k == 0 then 0
-    else (if is_call (left (line_at numbers k)) then slice_index_or reads (k - 1) 0 else (if head == 0 then 0 else slice_index_or reads head 0))
 
 -- where the row of a production stands in the order of closing, from how many rows are made and how many are closed before each place
 abbrev pub stands_of : (rows closed next : List ℕ) → ℕ → ℕ
@@ -66,26 +64,37 @@ abbrev pub numbered : ℕ → Token
 numbered number = record { number = number; start = 0; terminal = Ident; lexeme = [] }
 
 -- the number of the token that a production reads first, from how many those before each place read
-abbrev pub read_of : (owned sums numbers : List ℕ) → ℕ → ℕ
-read_of owned sums numbers k = if reads_count (line_at numbers k) == 0 then 0 else slice_index_or owned (slice_index_or sums k 0) 0
+abbrev pub read_of : (owned : List ℕ) → (reads : ℕ → ℕ) → (numbers : List ℕ) → ℕ → ℕ
+read_of owned reads numbers k = if reads_count (line_at numbers k) == 0 then 0 else slice_index_or owned (reads k) 0
+
+-- the number of the token that a row may take from before it, from the one that each production reads first
+abbrev pub taken_of : (numbers : List ℕ) → (read : ℕ → ℕ) → (heads : List ℕ) → ℕ → ℕ
+taken_of numbers read heads k =
+    let head = slice_index_or heads (k - 1) 0 in
+    if k == 0 then 0
+    else (if is_call (left (line_at numbers k)) then read (k - 1) else (if head == 0 then 0 else read head))
 
 -- the bytes of a token
 abbrev pub lexeme_of : (text starts lengths : List ℕ) → ℕ → List ℕ
 lexeme_of text starts lengths token = take (slice_index_or lengths token 0) (drop (slice_index_or starts token 0) text)
 
+-- the bytes of the token that a production reads first, where they tell what its row is
+abbrev pub spelling_of : (text starts lengths : List ℕ) → (read : ℕ → ℕ) → (numbers : List ℕ) → ℕ → List ℕ
+spelling_of text starts lengths read numbers i = if shape_spells (shape_of (line_at numbers i)) then lexeme_of text starts lengths (read i) else []
+
 -- the kind of a production's row
-abbrev pub kind_of : (text starts lengths reads numbers next : List ℕ) → ℕ → Kind
-kind_of text starts lengths reads numbers next i =
-    shape_word (shape_of (line_at numbers i)) (lexeme_of text starts lengths (slice_index_or reads i 0))
+abbrev pub kind_of : (text starts lengths : List ℕ) → (read : ℕ → ℕ) → (numbers next : List ℕ) → ℕ → Kind
+kind_of text starts lengths read numbers next i =
+    shape_word (shape_of (line_at numbers i)) (spelling_of text starts lengths read numbers i)
     (type_named (line_at numbers i) (line_at numbers (slice_index_or next (suc i) 0)) (line_at numbers (suc i)))
 
 -- the word of its own token; none for a statement that is a value
-abbrev pub word_of : (numbers reads : List ℕ) → List Bool → (heads : List ℕ) → ℕ → ℕ
-word_of numbers reads joins heads i = token_word (token_by (line_at numbers i) (numbered (slice_index_or reads i 0)) (taken_of numbers reads heads i) (slice_index_or joins i false) None)
+abbrev pub word_of : (numbers : List ℕ) → (read : ℕ → ℕ) → (next heads : List ℕ) → ℕ → ℕ
+word_of numbers read next heads i = token_word (token_by (line_at numbers i) (numbered (read i)) (taken_of numbers read heads i) (joins_of numbers next heads i) None)
 
 -- how many rows its subtree has
-abbrev pub size_of : (rows next numbers : List ℕ) → List Bool → (heads : List ℕ) → ℕ → ℕ
-size_of rows next numbers joins heads i = min (slice_index_or rows (slice_index_or next i 0) 0 - slice_index_or rows (begin_of numbers joins heads i) 0) 4294967295
+abbrev pub size_of : (rows next numbers heads : List ℕ) → ℕ → ℕ
+size_of rows next numbers heads i = min (slice_index_or rows (slice_index_or next i 0) 0 - slice_index_or rows (begin_of numbers next heads i) 0) 4294967295
 
 -- what the productions have, in an order, and behind them what the program has
 abbrev pub in_order : {X : Type 0} → List ℕ → (ℕ → X) → X → ℕ → X

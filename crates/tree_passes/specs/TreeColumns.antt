@@ -1,5 +1,5 @@
 -- What the passes find of a parse tree, and of the rows of its syntax tree.
-use Rattle.std.specs.Prelude.{◌≡◌, ℕ, suc, ◌-◌, ◌/◌, ◌^◌, ◌<◌, ◌≤◌, Bool, List, length, map, min, fold, Option, Some, None}
+use Rattle.std.specs.Prelude.{◌≡◌, ℕ, suc, ◌-◌, ◌/◌, ◌^◌, ◌<◌, ◌≤◌, List, length, map, min, fold, Option, Some, None}
 use Rattle.std.specs.List.{range_with_len}
 use Rattle.source_meaning.specs.declared.kinds.Kind.{Kind}
 use Rattle.source_meaning.specs.Lexemes.{tokens}
@@ -12,16 +12,14 @@ use Rattle.row_laws.specs.Placed.{rows_before}
 use Rattle.row_laws.specs.Climbed.{mark_at, row_by_lists, settled_at}
 use Rattle.row_laws.specs.Faulted.{Tells, fault_keys}
 use Rattle.tree_passes.specs.Columns.{numbers_of}
-use Rattle.tree_passes.specs.LineColumns.{AreJoins}
 use Rattle.tree_passes.specs.Orders.{IsOrder}
 
 -- the tree's leaves are the tokens of the text, and its left parse has these numbers
 abbrev pub IsParseOf : (text parse : List ℕ) → Tree Prog → Type 0
 IsParseOf text parse r = (leaves r ≡ tokens text) × (map number_of (left_parse r) ≡ parse)
 
--- where an else joins, how many rows are made before each place, and the order in which they are closed
-pub record AreClosing (ps : List Production) (joins : List Bool) (rows order : List ℕ) : Type 0 where
-  pub joins_are : AreJoins ps joins
+-- how many rows are made before each place, and the order in which they are closed
+pub record AreClosing (ps : List Production) (rows order : List ℕ) : Type 0 where
   pub rows_are : rows ≡ map (rows_before ps) (range_with_len 0 (suc (length ps)))
   pub ordered : IsOrder ps order
 

@@ -1,13 +1,13 @@
 //! Which else joins which if, and which productions have a row.
-ghost use Rattle.std.specs.Prelude.{◌≡◌, ◌≤◌, Bool, List, length, map, filter, false, if◌then◌else◌, slice_index_or, IfOk};
+ghost use Rattle.std.specs.Prelude.{◌≡◌, ◌≤◌, length, map, filter, false, if◌then◌else◌, slice_index_or, IfOk};
 ghost use Rattle.std.specs.List.{range_with_len};
-ghost use Rattle.source_meaning.specs.Grammar.{Production};
 ghost use Rattle.word_monoid.specs.Folds.{prefixes};
 ghost use Rattle.word_monoid.specs.Instances.{count};
-ghost use Rattle.tree_passes.specs.Reading.{joins_of, makes_of, meets_of};
+ghost use Rattle.tree_passes.specs.Reading.{joins_of, makes_of, meets_before as meets_before_of, meets_of};
 
-use crate::columns::{flag, joins_in, number, production};
-use crate::lines::{makes_row, meets};
+use crate::columns::{head_before, number, production};
+use crate::lines::meets;
+use crate::shapes::{Shape, made_by};
 use par_passes::{Lift, Passes};
 use std::alloc::AllocError;
 use word_monoid::Count;
@@ -26,49 +26,52 @@ fn meets_in(numbers: &[u16], next: &[u32], place: usize) -> bool
     )
 }
 
-/// Which cells meet the next one.
-pub(crate) fn meets_all(
-    crew: &impl Passes,
-    numbers: &[u16],
-    next: &[u32],
-) -> Result<Vec<bool>, AllocError>
-    requires few { length numbers.now ≤ 536870913 }
-    ensures { IfOk result (λ v. v.items ≡ map (meets_of numbers.now next.now) (range_with_len 0 (length numbers.now))) }
+// Whether the cell right before a place meets the next one; none stands before the first place.
+fn meets_before(numbers: &[u16], next: &[u32], place: u32) -> bool
+    ensures { result ≡ meets_before_of numbers.now next.now place }
 {
-    let at = |k: u32| -> bool
-        ensures { result ≡ meets_of numbers.entry.now next.entry.now k }
-    { meets_in(numbers, next, k as usize) };
-    crew.tabulate(numbers.len() as u32, &at)
+    if place == 0 {
+        false
+    } else {
+        meets_in(numbers, next, (place - 1) as usize)
+    }
 }
 
-/// Where an else joins.
-pub(crate) fn joins_all(
-    crew: &impl Passes,
-    numbers: &[u16],
-    meets: &[bool],
-    heads: &[u32],
-) -> Result<Vec<bool>, AllocError>
-    requires few { length numbers.now ≤ 536870913 }
-    ensures { IfOk result (λ v. v.items ≡ map (joins_of numbers.now meets.now heads.now) (range_with_len 0 (length numbers.now))) }
+/// Whether an else joins at a place.
+pub(crate) fn joins_in(numbers: &[u16], next: &[u32], heads: &[u32], place: u32) -> bool
+    ensures { result ≡ joins_of numbers.now next.now heads.now place }
 {
-    let at = |k: u32| -> bool
-        ensures { result ≡ joins_of numbers.entry.now meets.entry.now heads.entry.now k }
-    { joins_in(numbers, meets, heads, k as usize) };
-    crew.tabulate(numbers.len() as u32, &at)
+    match made_by(production(numbers, place as usize)) {
+        Shape::If => meets_before(numbers, next, place),
+        Shape::Else => meets_before(numbers, next, head_before(heads, place)),
+        _ => false,
+    }
+}
+
+// Whether the production at a place has a row.
+fn makes_in(numbers: &[u16], next: &[u32], heads: &[u32], place: u32) -> bool
+    ensures { result ≡ makes_of numbers.now next.now heads.now place }
+{
+    match made_by(production(numbers, place as usize)) {
+        Shape::If => !joins_in(numbers, next, heads, place),
+        Shape::Nothing => false,
+        _ => true,
+    }
 }
 
 /// Which productions have a row.
 pub(crate) fn made_all(
     crew: &impl Passes,
     numbers: &[u16],
-    joins: &[bool],
+    next: &[u32],
+    heads: &[u32],
 ) -> Result<Vec<bool>, AllocError>
     requires few { length numbers.now ≤ 536870913 }
-    ensures { IfOk result (λ v. v.items ≡ map (makes_of numbers.now joins.now) (range_with_len 0 (length numbers.now))) }
+    ensures { IfOk result (λ v. v.items ≡ map (makes_of numbers.now next.now heads.now) (range_with_len 0 (length numbers.now))) }
 {
     let at = |k: u32| -> bool
-        ensures { result ≡ makes_of numbers.entry.now joins.entry.now k }
-    { makes_row(production(numbers, k as usize), flag(joins, k as usize)) };
+        ensures { result ≡ makes_of numbers.entry.now next.entry.now heads.entry.now k }
+    { makes_in(numbers, next, heads, k) };
     crew.tabulate(numbers.len() as u32, &at)
 }
 

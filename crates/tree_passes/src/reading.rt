@@ -1,20 +1,16 @@
 //! The tokens that productions read, and their lexemes.
-ghost use Rattle.std.specs.Prelude.{◌≡◌, ◌≤◌, length, map, take, drop, slice_index_or, IfOk};
-ghost use Rattle.std.specs.List.{range_with_len};
-ghost use Rattle.word_monoid.specs.Folds.{prefixes};
-ghost use Rattle.word_monoid.specs.Instances.{count};
-ghost use Rattle.row_laws.specs.Owned.{reads_count};
-ghost use Rattle.tree_passes.specs.Numbers.{production_of};
+ghost use Rattle.std.specs.Prelude.{◌≡◌, ◌==◌, ◌≤◌, if◌then◌else◌, length, take, drop, slice_index_or, IfOk};
+ghost use Rattle.tree_passes.specs.Tallies.{reads_in};
 ghost use Rattle.tree_passes.specs.TokensOf.{owned_numbers};
-ghost use Rattle.tree_passes.specs.Reading.{lexeme_of, read_of};
+ghost use Rattle.tree_passes.specs.Reading.{lexeme_of, read_of, taken_of};
 
-use crate::columns::{number, production, sum};
-use crate::numbers::reads;
+use crate::columns::{number, production};
+use crate::numbers::{is_call, reads};
 use crate::spelled::is_owned;
-use par_passes::{Lift, Passes};
+use crate::tallies::{Tally, tally_before};
+use par_passes::Passes;
 use source_meaning::Terminal;
 use std::alloc::AllocError;
-use word_monoid::Count;
 
 /// The numbers of the tokens that are own tokens of rows.
 pub(crate) fn owned_all(crew: &impl Passes, kinds: &[Terminal]) -> Result<Vec<u32>, AllocError>
@@ -24,53 +20,52 @@ pub(crate) fn owned_all(crew: &impl Passes, kinds: &[Terminal]) -> Result<Vec<u3
     crew.positions(kinds, &|kind: Terminal| is_owned(kind))
 }
 
-// How many of them a production reads.
-struct Reads;
-
-impl Lift<u16, u64> for Reads {
-    ghost use Rattle.row_laws.specs.Owned.{reads_count};
-    ghost use Rattle.tree_passes.specs.Numbers.{production_of};
-
-    ghost lifted = { λ _ q. reads_count (production_of q) };
-
-    fn lift(&self, number: u16) -> u64 {
-        u64::from(reads(number))
-    }
+/// What tells the tokens that productions read.
+#[derive(Drop)]
+pub(crate) struct TokenReads {
+    /// The numbers of the tokens that are own tokens of rows.
+    pub(crate) owned: Vec<u32>,
+    /// The tallies of the productions before each place.
+    pub(crate) tallies: Vec<Tally>,
 }
 
-/// How many of them the productions before each place read.
-pub(crate) fn read_sums(crew: &impl Passes, numbers: &[u16]) -> Result<Vec<u64>, AllocError>
-    requires few { length numbers.now ≤ 536870913 }
-    ensures { IfOk result (λ v. v.items ≡ prefixes count (map (λ q. reads_count (production_of q)) numbers.now)) }
+/// The number of the token that the production at a place reads first, and 0 where it reads none.
+pub(crate) fn read_in(tokens: &TokenReads, numbers: &[u16], place: u32) -> u32
+    ensures { result ≡ read_of tokens.now.owned.items (reads_in tokens.now.tallies.items) numbers.now place }
 {
-    crew.scan_lifted(&Count, numbers, &Reads)
-}
-
-// The number of the token that the production at a place reads first, and 0 where it reads none.
-fn read_in(owned: &[u32], sums: &[u64], numbers: &[u16], place: usize) -> u32
-    ensures { result ≡ read_of owned.now sums.now numbers.now place }
-{
-    if reads(production(numbers, place)) == 0 {
+    let at = place as usize;
+    if reads(production(numbers, at)) == 0 {
         0
     } else {
-        number(owned, sum(sums, place) as usize)
+        let before = tally_before(tokens.tallies.as_slice(), at);
+        number(tokens.owned.as_slice(), before.reads as usize)
     }
 }
 
-/// The number of the token that each production reads first.
-pub(crate) fn reads_all(
-    crew: &impl Passes,
-    owned: &[u32],
-    sums: &[u64],
-    numbers: &[u16],
-) -> Result<Vec<u32>, AllocError>
-    requires few { length numbers.now ≤ 536870913 }
-    ensures { IfOk result (λ v. v.items ≡ map (read_of owned.now sums.now numbers.now) (range_with_len 0 (length numbers.now))) }
+// The same, and 0 at the first place.
+fn read_behind(tokens: &TokenReads, numbers: &[u16], place: u32) -> u32
+    ensures { result ≡ (if place == 0 then 0 else read_of tokens.now.owned.items (reads_in tokens.now.tallies.items) numbers.now place) }
 {
-    let at = |k: u32| -> u32
-        ensures { result ≡ read_of owned.entry.now sums.entry.now numbers.entry.now k }
-    { read_in(owned, sums, numbers, k as usize) };
-    crew.tabulate(numbers.len() as u32, &at)
+    if place == 0 {
+        0
+    } else {
+        read_in(tokens, numbers, place)
+    }
+}
+
+/// The number of the token that the row at a place may take from before it: that of a call's name, or of the if that an else joins.
+pub(crate) fn taken_in(tokens: &TokenReads, numbers: &[u16], heads: &[u32], place: u32) -> u32
+    ensures { result ≡ taken_of numbers.now (read_of tokens.now.owned.items (reads_in tokens.now.tallies.items) numbers.now) heads.now place }
+{
+    if place == 0 {
+        return 0;
+    }
+    let before = place - 1;
+    if is_call(production(numbers, place as usize)) {
+        read_in(tokens, numbers, before)
+    } else {
+        read_behind(tokens, numbers, number(heads, before as usize))
+    }
 }
 
 // The bytes from a place on.

@@ -1,7 +1,7 @@
 //! The rows of a syntax tree.
 ghost use Rattle.std.specs.Prelude.{◌≡◌, ℕ, ◌-◌, ◌/◌, ◌%◌, ◌<◌, ◌≤◌, ◌^◌, List, [], None, Some, Err, length, map, fold, min, IfOk};
 ghost use Rattle.source_meaning.specs.Lexemes.{lexical_fault, tokens as tokens_of};
-ghost use Rattle.source_meaning.specs.Grammar.{Prog, Production, Tree, ast, leaves, left_parse};
+ghost use Rattle.source_meaning.specs.Grammar.{Prog, Tree, ast, leaves, left_parse};
 ghost use Rattle.source_meaning.specs.Rows.{post};
 ghost use Rattle.source_meaning.specs.Scope.{earliest};
 ghost use Rattle.source_meaning.specs.Shape.{shape_faults};
@@ -11,19 +11,22 @@ ghost use Rattle.row_laws.specs.Standing.{marks_in};
 ghost use Rattle.row_laws.specs.Climbed.{row_by_lists};
 ghost use Rattle.tree_passes.specs.Columns.{numbers_of};
 ghost use Rattle.row_laws.specs.Faulted.{fault_keys as keys_of};
-ghost use Rattle.tree_passes.specs.LineColumns.{AreJoins, AreNear, AreNumbers, AreReads};
+ghost use Rattle.tree_passes.specs.LineColumns.{AreNear, AreNumbers, AreReads};
+ghost use Rattle.tree_passes.specs.Reading.{read_of};
+ghost use Rattle.tree_passes.specs.Tallies.{reads_in, tallies_by};
 ghost use Rattle.tree_passes.specs.TokensOf.{no_token};
 ghost use Rattle.tree_passes.specs.TreeColumns.{AreClosing, AreRowColumns, AreSmall, AreTreeColumns, IsLeastKey, IsParseOf};
 ghost use Rattle.tree_passes.specs.declared.fault.ShapeFault.TheVariants.{Diagnostic as Told};
 
 use crate::climbing::{fault_keys, lows_all, parents_all, places_all, tokens_all};
 use crate::fault::ShapeFault;
-use crate::joining::{joins_all, made_all, meets_all, row_sums};
+use crate::joining::{made_all, row_sums};
 use crate::laid::lay;
 use crate::levels::near;
 use crate::ordering::{closed_sums, order};
-use crate::reading::{owned_all, read_sums, reads_all};
+use crate::reading::{TokenReads, owned_all};
 use crate::row_columns::{kinds_all, sizes_all, words_all};
+use crate::tallies::{Tally, tallies_all};
 use ast_rows::{Rows, Tokens};
 use key_passes::counted;
 use near_stretches::all_nearest;
@@ -32,24 +35,9 @@ use par_passes::Passes;
 use source_meaning::{Kind, Terminal};
 use std::alloc::AllocError;
 
-// Where an else joins.
-fn joins_known(
-    crew: &impl Passes,
-    numbers: &[u16],
-    next: &[u32],
-    heads: &[u32],
-) -> Result<Vec<bool>, AllocError>
-    requires few { length numbers.now ≤ 536870913 }
-    ensures { IfOk result (λ v. (ps : List Production) → AreNumbers ps numbers.now → AreNear ps next.now heads.now → AreJoins ps v.items) }
-{
-    let meets = meets_all(crew, numbers, next)?;
-    joins_all(crew, numbers, meets.as_slice(), heads)
-}
-
-// Where an else joins, how many rows are made before each place, and the order in which they are closed.
+// How many rows are made before each place, and the order in which they are closed.
 #[derive(Drop)]
 struct Closing {
-    joins: Vec<bool>,
     rows: Vec<u64>,
     order: Vec<u32>,
 }
@@ -62,24 +50,28 @@ fn closing_order(
 ) -> Result<Closing, AllocError>
     requires few { length numbers.now ≤ 536870913 }
     requires parsed { (r : Tree Prog) × AreNumbers (left_parse r) numbers.now × AreNear (left_parse r) next.now heads.now }
-    ensures { IfOk result (λ v. (r : Tree Prog) → AreNumbers (left_parse r) numbers.now → AreNear (left_parse r) next.now heads.now → AreClosing (left_parse r) v.joins.items v.rows.items v.order.items) }
+    ensures { IfOk result (λ v. (r : Tree Prog) → AreNumbers (left_parse r) numbers.now → AreNear (left_parse r) next.now heads.now → AreClosing (left_parse r) v.rows.items v.order.items) }
 {
-    let joins = joins_known(crew, numbers, next, heads)?;
-    let made = made_all(crew, numbers, joins.as_slice())?;
+    let made = made_all(crew, numbers, next, heads)?;
     let rows = row_sums(crew, made.as_slice())?;
     let order = order(crew, made.as_slice(), rows.as_slice(), next)?;
-    Ok(Closing { joins, rows, order })
+    Ok(Closing { rows, order })
 }
 
-// The number of the token that each production reads first.
-fn reads(crew: &impl Passes, kinds: &[Terminal], numbers: &[u16]) -> Result<Vec<u32>, AllocError>
+// What tells the token that each production reads first.
+fn reads(
+    crew: &impl Passes,
+    kinds: &[Terminal],
+    numbers: &[u16],
+    tallies: Vec<Tally>,
+) -> Result<TokenReads, AllocError>
     requires few { length numbers.now ≤ 536870913 }
     requires kinds { length kinds.now ≤ 4294967295 }
-    ensures { IfOk result (λ v. (r : Tree Prog) (text : List ℕ) → IsParseOf text numbers.now r → kinds.now ≡ map (λ t. t.terminal) (map row_of (tokens_of text)) → AreReads (left_parse r) (leaves r) v.items) }
+    requires tallies { tallies.items ≡ tallies_by numbers.now }
+    ensures { IfOk result (λ v. (r : Tree Prog) (text : List ℕ) → IsParseOf text numbers.now r → kinds.now ≡ map (λ t. t.terminal) (map row_of (tokens_of text)) → AreReads (left_parse r) (leaves r) (read_of v.owned.items (reads_in v.tallies.items) numbers.now)) }
 {
     let owned = owned_all(crew, kinds)?;
-    let sums = read_sums(crew, numbers)?;
-    reads_all(crew, owned.as_slice(), sums.as_slice(), numbers)
+    Ok(TokenReads { owned, tallies })
 }
 
 // Kinds, sizes and own tokens of the rows.
@@ -98,17 +90,17 @@ fn find_columns(
     numbers: &[u16],
     nearest: &Nearest,
     closing: &Closing,
-    reads: &[u32],
+    reads: &TokenReads,
 ) -> Result<Columns, AllocError>
     requires small { length text.now ≤ 2 ^ 24 }
     requires few { length numbers.now ≤ 536870913 }
     requires order { length closing.now.order.items ≤ 536870913 }
     requires lexical { lexical_fault text.now ≡ None }
     requires tokens { tokens.now ≡ map row_of (tokens_of text.now) }
-    ensures { IfOk result (λ v. (r : Tree Prog) → IsParseOf text.now numbers.now r → AreNear (left_parse r) nearest.now.next.items nearest.now.begin.items → AreClosing (left_parse r) closing.now.joins.items closing.now.rows.items closing.now.order.items → AreReads (left_parse r) (leaves r) reads.now → AreRowColumns (marks_in no_token (left_parse r) (leaves r) closing.now.order.items) v.kinds.items v.sizes.items v.tokens.items) }
+    ensures { IfOk result (λ v. (r : Tree Prog) → IsParseOf text.now numbers.now r → AreNear (left_parse r) nearest.now.next.items nearest.now.begin.items → AreClosing (left_parse r) closing.now.rows.items closing.now.order.items → AreReads (left_parse r) (leaves r) (read_of reads.now.owned.items (reads_in reads.now.tallies.items) numbers.now) → AreRowColumns (marks_in no_token (left_parse r) (leaves r) closing.now.order.items) v.kinds.items v.sizes.items v.tokens.items) }
 {
     let (next, heads) = (nearest.next.as_slice(), nearest.begin.as_slice());
-    let (joins, order) = (closing.joins.as_slice(), closing.order.as_slice());
+    let order = closing.order.as_slice();
     let kinds = kinds_all(
         crew,
         text,
@@ -119,16 +111,8 @@ fn find_columns(
         next,
         order,
     )?;
-    let sizes = sizes_all(
-        crew,
-        closing.rows.as_slice(),
-        next,
-        numbers,
-        joins,
-        heads,
-        order,
-    )?;
-    let words = words_all(crew, numbers, reads, joins, heads, order)?;
+    let sizes = sizes_all(crew, closing.rows.as_slice(), next, numbers, heads, order)?;
+    let words = words_all(crew, numbers, reads, next, heads, order)?;
     let tokens = tokens_all(crew, kinds.as_slice(), words.as_slice())?;
     Ok(Columns {
         kinds,
@@ -166,23 +150,16 @@ fn tree_columns(
     requires parsed { (r : Tree Prog) × IsParseOf text.now numbers.now r }
     ensures { IfOk result (λ v. (r : Tree Prog) → IsParseOf text.now numbers.now r → AreTreeColumns r v.kinds.items v.sizes.items v.tokens.items) }
 {
-    let nearest = near(crew, numbers)?;
+    let tallies = tallies_all(crew, numbers)?;
+    let nearest = near(crew, tallies.as_slice(), numbers)?;
     let closing = closing_order(
         crew,
         numbers,
         nearest.next.as_slice(),
         nearest.begin.as_slice(),
     )?;
-    let reads = reads(crew, tokens.kinds(), numbers)?;
-    find_columns(
-        crew,
-        text,
-        tokens,
-        numbers,
-        &nearest,
-        &closing,
-        reads.as_slice(),
-    )
+    let reads = reads(crew, tokens.kinds(), numbers, tallies)?;
+    find_columns(crew, text, tokens, numbers, &nearest, &closing, &reads)
 }
 
 // The least key of the rows' faults.
