@@ -103,7 +103,7 @@ const ACCEPTED: [(&[u8], usize); 4] = [
 // Sees that the source has this diagnostic, and no other answer.
 fn expect<R: Threads + Abort + Sync>(
     rt: &R,
-    crew: &impl Passes,
+    crew: &(impl Passes + Sync),
     (source, code, at): Diagnosed,
 ) -> Result<(), Fail> {
     match front(crew, source) {
