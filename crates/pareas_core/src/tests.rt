@@ -210,6 +210,20 @@ fn runs_programs_of_the_whole_language(rt: HostRuntime) -> Result<(), Fail> {
 }
 
 #[test]
+fn runs_the_same_for_every_plan(rt: HostRuntime) -> Result<(), Fail> {
+    for workers in ["1", "4", "64"] {
+        for chunk in ["1", "7", "65536"] {
+            let words = ["pareas", "run", "--workers", workers, "--chunk", chunk];
+            for (source, out) in &PROGRAMS[5..] {
+                let done: (Status, &[u8], &[u8]) = (Status::Done, out, b"");
+                expect(&rt, rt.alloc(), &words, source, &SOUND, done)?;
+            }
+        }
+    }
+    Ok(())
+}
+
+#[test]
 fn runs_that_do_not_exit(rt: HostRuntime) -> Result<(), Fail> {
     for steps in ["0", "1", "1000"] {
         let words = ["pareas", "run", "--steps", steps];
