@@ -147,7 +147,7 @@ fn drill<'a>(alloc: Global) -> Result<Command<'a>, AllocError>
 {
     Command::new(alloc, "drill")
         .about(
-            "Compiles and runs a program made from a seed: prints sizes and how it ends, reads no input",
+            "Compiles and runs a program made from a seed, as in `pareas drill --seed 1 --functions 2`: prints sizes and how it ends, reads no input",
         )
         .arg(seed(alloc))?
         .arg(functions(alloc))?

@@ -269,7 +269,7 @@ fn expect_refusal<R: Threads + Abort + Sync>(
 
 #[test]
 fn refuses_words(rt: HostRuntime) -> Result<(), Fail> {
-    let rows: [(&[&str], &[u8]); 9] = [
+    let rows: [(&[&str], &[u8]); 10] = [
         (&["pareas"], b"error: 'pareas' requires a subcommand"),
         (
             &["pareas", "drill", "--seed", "1", "--functions", "0"],
@@ -290,6 +290,10 @@ fn refuses_words(rt: HostRuntime) -> Result<(), Fail> {
         ),
         (&["pareas", "run", "--steps"], b"error: a value is required"),
         (&["pareas", "--help"], b"A parallel compiler"),
+        (
+            &["pareas", "help", "drill"],
+            b"Compiles and runs a program made from a seed, as in `pareas drill --seed 1 --functions 2`",
+        ),
         (&["pareas", "--version"], b"pareas 0.1.0\n"),
     ];
     for (words, beginning) in rows {
