@@ -1,12 +1,12 @@
 -- Values that calls gave, item by item and chunk by chunk.
-use Rattle.std.proofs.Common.{◌≡◌, ℕ, zero, suc, ◌+◌, ◌-◌, ◌*◌, ◌<◌, ◌≤◌, min, All, List, [], ◌∷◌, ◌++◌, length, get_or, take, drop, map, replicate, flat_map, Some, slice_get, slice_set, refl, sym, ap, ◌∙◌, subst, arith, add-one, suc-mul, take-add, append_assoc}
+use Rattle.std.proofs.Common.{◌≡◌, ℕ, zero, suc, ◌+◌, ◌-◌, ◌*◌, ◌<◌, ◌≤◌, min, All, List, [], ◌∷◌, ◌++◌, length, get_or, take, drop, map, replicate, flat_map, Option, Some, slice_get, slice_set, refl, sym, ap, ◌∙◌, subst, arith, add-one, suc-mul, take-add, append_assoc}
 use Rattle.std.specs.List.{range_with_len}
-use Rattle.std.proofs.lemmas.List.{append-nil, take_more, take_more_set, take_all, length-take}
+use Rattle.std.proofs.lemmas.List.{append-nil, take_more, take_more_set, take_all}
 use Rattle.std.proofs.lemmas.List.FromFn.{length-range_with_len, get_or-range_with_len}
 use Rattle.chunk_seats.specs.Chunks.{chunk_of, chunk_count}
-use Rattle.par_passes.specs.Passes.{Gives, Maps}
+use Rattle.par_passes.specs.Passes.{GaveAt, Gives, Maps}
 use Rattle.par_passes.proofs.Together.{together, whole_list}
-use Rattle.par_passes.proofs.Marking.{range_next, numbers_chunk, length_chunk}
+use Rattle.par_passes.proofs.Marking.{range_chunk, take_range, length_chunk}
 
 module _ {T U : Type 0} (post : T → U → Type 0) where
   pub gives_none : Gives post [] []
@@ -131,43 +131,70 @@ gives_chunks {T = T} post inside size items count vs out pos is joined all =
 
 -- values for numbers
 module _ {U : Type 0} (post : ℕ → U → Type 0) where
-  pub numbers_none : (before : List ℕ) (from : ℕ) (out : List U) → Gives post before out → Gives post (before ++ range_with_len from (from - from)) out
-  numbers_none before from out all =
-      let z : from - from ≡ 0 = omega arith in
-      subst (λ n. Gives post (before ++ range_with_len from n) out) (sym z) (subst (λ l. Gives post l out) (sym (append-nil before)) all)
+  pub put_number : (from n k : ℕ) (out put : List U) (y : U) → k < n → length out ≡ n → post (from + k) y → put ≡ slice_set out k y → Gives post (take k (range_with_len from n)) (take k out) → Gives post (take (k + 1) (range_with_len from n)) (take (k + 1) put)
+  put_number from n k out put y less wide gave is =
+      let m : length (range_with_len from n) ≡ n = length-range_with_len from n in
+      put_more post (range_with_len from n) k (from + k) out put y (omega (arith, m)) (wide ∙ sym m) (sym (get_or-range_with_len from n k (from + k) less)) gave is
 
-  pub numbers_more : (before : List ℕ) (from k : ℕ) (out more : List U) (y : U) → from ≤ k → post k y → more ≡ out ++ y ∷ [] → Gives post (before ++ range_with_len from (k - from)) out → Gives post (before ++ range_with_len from (k + 1 - from)) more
-  numbers_more before from k out more y least gave added so_far =
-      let z : from + (k - from) ≡ k = omega arith in
-      let n : k - from + 1 ≡ k + 1 - from = omega arith in
-      let next : (before ++ range_with_len from (k - from)) ++ k ∷ [] ≡ before ++ range_with_len from (k + 1 - from) =
-      append_assoc before (range_with_len from (k - from)) (k ∷ [])
-      ∙ ap (λ l. before ++ l) (ap (λ j. range_with_len from (k - from) ++ j ∷ []) (sym z) ∙ (sym (range_next from (k - from)) ∙ ap (range_with_len from) n)) in
-      subst (Gives post (before ++ range_with_len from (k + 1 - from))) (sym added) (subst (λ l. Gives post l (out ++ y ∷ [])) next (gives_next post (before ++ range_with_len from (k - from)) out k y so_far gave))
+  -- the first of copies of the value of number 0
+  pub first_number : (n : ℕ) (y : U) (out : List U) → 0 < n → post 0 y → out ≡ replicate n y → Gives post (take 1 (range_with_len 0 n)) (take 1 out)
+  first_number n y out some gave is =
+      let m : length (range_with_len 0 n) ≡ n = length-range_with_len 0 n in
+      first_copy post (range_with_len 0 n) n 0 y out (omega (arith, m)) (sym m) (sym (get_or-range_with_len 0 n 0 0 some)) gave is
 
-  -- the values of chunk 0, of which the first is known
-  pub numbers_first : (size n to : ℕ) (y : U) (out : List U) → 0 < n → 0 < size → to ≡ min n size → post 0 y
-      → ((before : List ℕ) → Gives post before (y ∷ []) → Gives post (before ++ range_with_len 1 (to - 1)) out) → Gives post (chunk_of size (range_with_len 0 n) 0) out
-  numbers_first size n to y out some pos is gave more =
-      let z : 0 ≡ min (0 * size) n = omega arith in
-      let e : to ≡ 0 + min (n - 0) size = omega arith in
-      let t : suc (to - 1) ≡ to - 0 = omega arith in
-      subst (λ l. Gives post l out) (ap (range_with_len 0) t ∙ sym (numbers_chunk size n 0 0 to z e)) (more (0 ∷ []) (gives_before post 0 y [] [] gave (gives_none post)))
+  -- the values that are known of a list that is made longer
+  pub known_kept : (old out more : List U) (known n : ℕ) → known ≡ length old → length old ≤ n → length out ≡ n → out ≡ take n old ++ more → Gives post (range_with_len 0 (length old)) old → Gives post (take known (range_with_len 0 (length out))) (take known out)
+  known_kept old out more known n count longer wide is all =
+      let m : min known (length out) ≡ length old = omega arith in
+      let numbers : take known (range_with_len 0 (length out)) ≡ range_with_len 0 (length old) = take_range known 0 (length out) ∙ ap (range_with_len 0) m in
+      let values : take known out ≡ old =
+      (λ i. take (count i) (is i)) ∙ (ap (λ l. take (length old) (l ++ more)) (take_all n old longer) ∙ front old more) in
+      subst (λ l. Gives post l (take known out)) (sym numbers) (subst (Gives post (range_with_len 0 (length old))) (sym values) all)
+    where
+      front : (xs ys : List U) → take (length xs) (xs ++ ys) ≡ xs
+      front [] ys = refl
+      front (x ∷ xs) ys = ap (λ l. x ∷ l) (front xs ys)
 
-  -- how many values a chunk of numbers has
-  pub numbers_wide : (size n c : ℕ) (out : List U) → Gives post (chunk_of size (range_with_len 0 n) c) out → length out ≡ min size (n - c * size)
-  numbers_wide size n c out all = all.as_many ∙ (length_chunk size (range_with_len 0 n) c ∙ ap (λ m. min size (m - c * size)) (length-range_with_len 0 n))
+-- what holds of all numbers in a range, number by number
+pub number_from : (P : ℕ → Type 0) (from n k : ℕ) → k < n → All P (range_with_len from n) → P (from + k)
+number_from P from n k less all = let m : length (range_with_len from n) ≡ n = length-range_with_len from n in subst P (get_or-range_with_len from n k 0 less) (all k 0 (omega (arith, m)))
 
--- what holds of the numbers below a count holds of those of chunk 0 behind the first
-pub numbers_behind : (P : ℕ → Type 0) (n to : ℕ) → to ≤ n → All P (range_with_len 0 n) → All P (range_with_len 1 (to - 1))
-numbers_behind P n to most all = λ k d h.
-    let l : length (range_with_len 1 (to - 1)) ≡ to - 1 = length-range_with_len 1 (to - 1) in
-    let m : length (range_with_len 0 n) ≡ n = length-range_with_len 0 n in
-    let here : get_or (range_with_len 1 (to - 1)) k d ≡ 1 + k = get_or-range_with_len 1 (to - 1) k d (omega arith) in
-    let there : get_or (range_with_len 0 n) (1 + k) d ≡ 0 + (1 + k) = get_or-range_with_len 0 n (1 + k) d (omega arith) in
-    let same : get_or (range_with_len 0 n) (1 + k) d ≡ get_or (range_with_len 1 (to - 1)) k d = omega arith in
-    subst P same (all (1 + k) d (omega arith))
-
--- what holds of all numbers below a count, number by number
 pub each_number : (P : ℕ → Type 0) (n : ℕ) → All P (range_with_len 0 n) → (c : ℕ) → c < n → P c
-each_number P n all c less = let m : length (range_with_len 0 n) ≡ n = length-range_with_len 0 n in let z : 0 + c ≡ c = omega arith in subst P (get_or-range_with_len 0 n c 0 less ∙ z) (all c 0 (omega arith))
+each_number P n all c less = let z : 0 + c ≡ c = omega arith in subst P z (number_from P 0 n c less all)
+
+pub all_numbers : (P : ℕ → Type 0) (n : ℕ) → ((k : ℕ) → k < n → P k) → All P (range_with_len 0 n)
+all_numbers P n all = λ k d h.
+    let m : length (range_with_len 0 n) ≡ n = length-range_with_len 0 n in
+    let less : k < n = omega arith in
+    subst P (sym (get_or-range_with_len 0 n k d less)) (all (0 + k) (omega arith))
+
+pub numbers_front : (P : ℕ → Type 0) (m n : ℕ) → m ≤ n → All P (range_with_len 0 n) → All P (range_with_len 0 m)
+numbers_front P m n front all = all_numbers P m (λ k less. each_number P n all k (omega arith))
+
+-- what calls gave for the numbers of items, they gave for the items
+pub gives_by_number : {T U : Type 0} (post : T → U → Type 0) (items : List T) (out : List U) → Gives (GaveAt post items) (range_with_len 0 (length items)) out → Gives post items out
+gives_by_number {T} post items out all = record {
+  as_many = all.as_many ∙ length-range_with_len 0 (length items);
+  each = λ k x y at there.
+      let z : 0 + k ≡ k = omega arith in
+      let gave = all.each k k y (get_number 0 (length items) k (near items k x at) ∙ ap Some z) there in
+      subst (λ v. post v y) (same (slice_get items k) gave.0 x gave.1 at) gave.2;
+}
+  where
+    get_number : (a n k : ℕ) → k < n → slice_get (range_with_len a n) k ≡ Some (a + k)
+    get_number a zero k less = absurd (omega arith)
+    get_number a (suc n) zero less = let z : a ≡ a + 0 = omega arith in ap Some z
+    get_number a (suc n) (suc k) less = let z : a + 1 + k ≡ a + suc k = omega arith in get_number (a + 1) n k (omega arith) ∙ ap Some z
+
+    near : (xs : List T) (k : ℕ) (x : T) → slice_get xs k ≡ Some x → k < length xs
+    near [] k x at = absurd cc
+    near (y ∷ xs) zero x at = omega arith
+    near (y ∷ xs) (suc k) x at = let h = near xs k x at in omega arith
+
+    same : (o : Option T) (a b : T) → o ≡ Some a → o ≡ Some b → a ≡ b
+    same o a b p q = cc
+
+-- a chunk of the numbers below n, by where it begins and how many it has
+pub numbers_of_chunk : (size n c from m : ℕ) → from ≡ min (c * size) n → length (chunk_of size (range_with_len 0 n) c) ≡ m → chunk_of size (range_with_len 0 n) c ≡ range_with_len from m
+numbers_of_chunk size n c from m begins wide =
+    range_chunk size n c from begins ∙ ap (range_with_len from) (sym (ap (λ k. min size (k - c * size)) (length-range_with_len 0 n)) ∙ (sym (length_chunk size (range_with_len 0 n) c) ∙ wide))

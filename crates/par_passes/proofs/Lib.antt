@@ -4,5 +4,4 @@ pub mod Giving
 pub mod Working
 pub mod Lowest
 pub mod Calling
-pub mod Filling
 pub mod Gluing

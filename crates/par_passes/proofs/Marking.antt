@@ -2,7 +2,7 @@
 use Rattle.std.proofs.Common.{◌≡◌, ℕ, zero, suc, ◌+◌, ◌-◌, ◌*◌, ◌<◌, ◌≤◌, min, Bool, true, false, cond, All, List, [], ◌∷◌, ◌++◌, length, get_or, take, drop, map, filter, refl, sym, ap, ◌∙◌, subst, arith, add-one, suc-mul, take-add, append_assoc}
 use Rattle.std.specs.List.{range_with_len, zip}
 use Rattle.std.proofs.lemmas.List.{take_more, take-map, drop-map, map_more, length-take, length-drop, length-map}
-use Rattle.std.proofs.lemmas.List.FromFn.{length-range_with_len, get_or-range_with_len, map-range_with_len_more}
+use Rattle.std.proofs.lemmas.List.FromFn.{length-range_with_len, get_or-range_with_len}
 use Rattle.chunk_seats.specs.Chunks.{chunk_of, chunk_count}
 use Rattle.par_passes.specs.Passes.{marked}
 use Rattle.par_passes.proofs.Together.{kept_parts, whole_list}
@@ -54,7 +54,7 @@ range_next a (suc n) =
     let e : suc n + 1 ≡ suc (n + 1) = omega arith in
     ap (range_with_len a) e ∙ ap (λ (l : List ℕ). a ∷ l) (range_next (a + 1) n ∙ ap (λ (k : ℕ). range_with_len (a + 1) n ++ k ∷ []) z)
 
-take_range : (k a n : ℕ) → take k (range_with_len a n) ≡ range_with_len a (min k n)
+pub take_range : (k a n : ℕ) → take k (range_with_len a n) ≡ range_with_len a (min k n)
 take_range zero a n = let z : 0 ≡ min 0 n = omega arith in ap (range_with_len a) z
 take_range (suc k) a zero = let z : 0 ≡ min (suc k) 0 = omega arith in ap (range_with_len a) z
 take_range (suc k) a (suc n) =

@@ -1,5 +1,4 @@
 pub mod Crews
 pub mod Passes
 pub mod Least
-pub mod Slots
 pub mod Dealt

@@ -14,3 +14,7 @@ Maps {T} {U} post items out = (g : T → U) → All (λ x. (r : U) → post x r 
 -- the items whose mark is true
 abbrev pub marked : {T : Type 0} → List T → List Bool → List T
 marked items marks = map (λ p. p.0) (filter (λ p. p.1) (zip items marks))
+
+-- it is what a call at the item of that number gave
+abbrev pub GaveAt : {T U : Type 0} → (T → U → Type 0) → List T → ℕ → U → Type 0
+GaveAt {T} post items k y = (x : T) × (slice_get items k ≡ Some x) × post x y

@@ -8,7 +8,7 @@ ghost use Rattle.par_passes.specs.Passes.{Gives};
 ghost use Rattle.scatter_rows.specs.Scattered.{AreDistinct, IsScattered};
 
 use super::*;
-use crate::fill::copies;
+use crate::dealt::copies;
 use chunk_seats::{OpenGate, Plan};
 use std::alloc::{AllocError, Global};
 use std::process::Abort;

@@ -1,18 +1,14 @@
 //! The workers of a pass.
-ghost use Rattle.std.specs.Prelude.{◌≡◌, ℕ, ◌+◌, ◌-◌, ◌*◌, ◌<◌, ◌≤◌, ◌^◌, ◌++◌, min, length, List, All, map, flat_map, IfOk, Ok};
+ghost use Rattle.std.specs.Prelude.{◌≡◌, ℕ, ◌+◌, ◌<◌, ◌≤◌, ◌^◌, ◌++◌, List, All, map, flat_map, IfOk, Ok};
 ghost use Rattle.std.specs.Global.{Vec};
 ghost use Rattle.std.specs.List.{range_with_len};
 ghost use Rattle.std.specs.Result.{OnOk};
 ghost use Rattle.std.specs.Thread.{IsSync};
-ghost use Rattle.chunk_seats.specs.Chunks.{chunk_count};
 ghost use Rattle.chunk_seats.specs.Claims.{fresh};
 ghost use Rattle.par_passes.specs.Crews.{Callable, Gave, Makes};
-ghost use Rattle.par_passes.specs.Passes.{Gives};
 
-use crate::chunk::count_chunks;
-use crate::fill::{chunks_each, copies, fill};
 use chunk_seats::{ClaimBoard, Gate, Plan, Seat};
-use scan_lookback::{assemble, by_number};
+use scan_lookback::assemble;
 use std::alloc::{AllocError, Global};
 use std::thread::{Threads, join};
 
@@ -21,13 +17,6 @@ use std::thread::{Threads, join};
 pub(crate) struct Made<U: Copy> {
     pub mine: Seat,
     pub all: Vec<(u64, Vec<U>)>,
-}
-
-// The same, and a list for the answer.
-#[derive(Drop)]
-struct Begun<U: Copy> {
-    made: Made<U>,
-    list: Vec<U>,
 }
 
 // All that one worker does: it draws chunks until none is left.
@@ -151,113 +140,4 @@ pub(crate) fn by_chunks<
     let Made { mine, all } = run(rt, alloc, &claims, mine, gate, 0, workers, make)?;
     claims.close(mine);
     assemble(alloc, count, capacity, all)
-}
-
-// One worker, and a list for the answer, which it makes before.
-fn first_worker<U: Copy, F: Fn(u64) -> Result<Vec<U>, AllocError>, G: Gate>(
-    alloc: Global,
-    claims: &ClaimBoard,
-    mut mine: Seat,
-    gate: &G,
-    blank: U,
-    len: usize,
-    make: &F,
-) -> Result<Begun<U>, AllocError>
-    requires board { mine.board ≡ claims.now.board }
-    requires new { mine.view ≡ fresh 1 }
-    requires callable { Callable claims.now.chunks (F.pre make.now) }
-    ensures made { IfOk result (λ r. Makes claims.now.chunks (F.post make.now) claims.now.board 1 r.made) }
-    ensures list { IfOk result (λ r. length r.list.items ≡ len) }
-{
-    let list = copies(alloc, blank, len)?;
-    let all = work(alloc, claims, &mut mine, gate, 0, make)?;
-    let made = Made { mine, all };
-    Ok(Begun { made, list })
-}
-
-// All workers, of which the first makes the list for the answer, before it draws, while the others draw.
-fn begin<
-    U: Copy + Send + Sync,
-    F: Fn(u64) -> Result<Vec<U>, AllocError> + Sync,
-    G: Gate,
-    R: Threads + Sync,
->(
-    rt: &R,
-    alloc: Global,
-    claims: &ClaimBoard,
-    mut mine: Seat,
-    gate: &G,
-    workers: u32,
-    blank: U,
-    len: usize,
-    make: &F,
-) -> Result<Begun<U>, AllocError>
-    requires board { mine.board ≡ claims.now.board }
-    requires new { mine.view ≡ fresh workers }
-    requires workers { (1 ≤ workers) × (workers ≤ 64) }
-    requires callable { Callable claims.now.chunks (F.pre make.now) }
-    ensures made { IfOk result (λ r. Makes claims.now.chunks (F.post make.now) claims.now.board workers r.made) }
-    ensures list { IfOk result (λ r. length r.list.items ≡ len) }
-{
-    if workers == 1 {
-        return first_worker(alloc, claims, mine, gate, blank, len, make);
-    }
-    let rest = workers - 1;
-    let theirs = claims.split(&mut mine, rest);
-    let (one, two) = join(
-        rt,
-        move || -> Result<Begun<U>, AllocError>
-            requires { (mine.board ≡ claims.now.board) × (mine.view ≡ fresh 1) × Callable claims.now.chunks (F.pre make.now) }
-            ensures made { IfOk result (λ r. Makes claims.entry.now.chunks (F.post make.entry.now) claims.entry.now.board 1 r.made) }
-            ensures list { IfOk result (λ r. length r.list.items ≡ len) }
-        { first_worker(alloc, claims, mine, gate, blank, len, make) },
-        move || -> Result<Made<U>, AllocError>
-            requires { IsSync R.row × (theirs.board ≡ claims.now.board) × (theirs.view ≡ fresh rest) × (1 ≤ rest) × (1 + rest ≤ 64) × Callable claims.now.chunks (F.pre make.now) }
-            ensures { IfOk result (λ r. Makes claims.entry.now.chunks (F.post make.entry.now) claims.entry.now.board rest r) }
-        { run(rt, alloc, claims, theirs, gate, 1, rest, make) },
-    );
-    let Begun { made, list } = one?;
-    let made = merge(claims, make, 1, rest, made, two?)?;
-    Ok(Begun { made, list })
-}
-
-/// The same where as many values are made of each chunk as it has of the `len` items. The list is filled in place: the first worker
-/// makes it of copies of `blank` while the others draw.
-pub(crate) fn by_whole_chunks<
-    U: Copy + Send + Sync,
-    F: Fn(u64) -> Result<Vec<U>, AllocError> + Sync,
-    G: Gate,
-    R: Threads + Sync,
->(
-    rt: &R,
-    alloc: Global,
-    plan: &Plan,
-    gate: &G,
-    blank: U,
-    len: usize,
-    make: &F,
-) -> Result<Vec<U>, AllocError>
-    requires len { len < 2 ^ 62 }
-    requires callable { All (F.pre make.now) (range_with_len 0 (chunk_count plan.now.chunk len)) }
-    requires whole { (c : ℕ) (x : Vec U) → F.post make.now c (Ok x) → length x.items ≡ min plan.now.chunk (len - c * plan.now.chunk) }
-    ensures { IfOk result (λ v. (lists : List (Vec U)) × Gives (λ c x. F.post make.now c (Ok x)) (range_with_len 0 (chunk_count plan.now.chunk len)) lists × (v.items ≡ flat_map (λ x. x.items) lists)) }
-{
-    let count = count_chunks(len, plan.chunk);
-    let workers = (plan.workers as usize).min(count.max(1)) as u32;
-    let (claims, mine) = ClaimBoard::new(alloc, count as u64, workers)?;
-    let Begun { made, list } = begin(rt, alloc, &claims, mine, gate, workers, blank, len, make)?;
-    let Made { mine, all } = made;
-    claims.close(mine);
-    let slots = by_number(alloc, count, all)?;
-    let per = chunks_each(count, workers);
-    let mut out = list;
-    fill(
-        rt,
-        slots.as_slice(),
-        plan.chunk,
-        per,
-        len,
-        out.as_mut_slice(),
-    );
-    Ok(out)
 }

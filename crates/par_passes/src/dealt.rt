@@ -1,5 +1,6 @@
-//! A list that workers fill in place: each fills the parts that it draws.
-ghost use Rattle.std.specs.Prelude.{◌≡◌, ℕ, ◌+◌, ◌-◌, ◌<◌, ◌≤◌, ◌^◌, [], All, Some, None, length, take, flat_map, slice_get, vec_capacity, IfOk, IfErr};
+//! A list that is filled in place with what a function gives for the number of each place. Workers fill the parts that they draw.
+ghost use Rattle.std.specs.Prelude.{◌≡◌, ℕ, ◌+◌, ◌-◌, ◌*◌, ◌<◌, ◌≤◌, ◌^◌, [], min, All, Some, None, length, take, replicate, flat_map, slice_get, vec_capacity, IfOk, IfErr};
+ghost use Rattle.std.specs.List.{range_with_len};
 ghost use Rattle.std.specs.Thread.{IsSync};
 ghost use denote.RawPtr.{Ptr};
 ghost use Rattle.std.specs.Mem.{type_size};
@@ -11,8 +12,7 @@ ghost use Rattle.list_parts.specs.declared.part.Part.{Part as Piece};
 ghost use Rattle.par_passes.specs.Dealt.{Serves, InPlace, IsWhole};
 ghost use Rattle.par_passes.specs.Passes.{Gives};
 
-use crate::chunk::{chunk_slice, count_chunks};
-use crate::fill::copies;
+use crate::chunk::{chunk_start, count_chunks};
 use chunk_seats::{Gate, Plan};
 use deal_board::{DealBoard, Goods, Returned, Seat};
 use list_parts::{Part, with_part};
@@ -20,62 +20,63 @@ use std::alloc::{AllocError, Global};
 use std::marker::Brand;
 use std::thread::{Threads, join};
 
-// What the function gives for each item, at the item's place. So many of the first values are there already.
-fn fill_behind<T: Copy, U: Copy, F: Fn(T) -> U>(out: &mut [U], items: &[T], known: usize, f: &F)
-    requires len { length items.now ≡ length out.old }
-    requires callable { All (F.pre f.now) items.now }
-    requires known { Gives (F.post f.now) (take known items.now) (take known out.old) }
+// What the function gives for each number from `from` on, at its place. So many of the first values are there already.
+fn fill_behind<U: Copy, F: Fn(usize) -> U>(out: &mut [U], from: usize, known: usize, f: &F)
+    requires room { from + length out.old < 2 ^ 64 }
+    requires callable { All (F.pre f.now) (range_with_len from (length out.old)) }
+    requires known { Gives (F.post f.now) (take known (range_with_len from (length out.old))) (take known out.old) }
     ensures len { length out.new ≡ length out.old }
-    ensures values { Gives (F.post f.now) items.now out.new }
+    ensures values { Gives (F.post f.now) (range_with_len from (length out.old)) out.new }
 {
-    for i in known..items.len() {
-        out[i] = f(items[i]);
+    for i in known..out.len() {
+        out[i] = f(from + i);
     }
 }
 
-// The part of chunk `c`, filled with what the function gives for the chunk's items. The first value of chunk 0 is there already.
-fn fill_part<T: Copy, U: Copy, F: Fn(T) -> U>(part: &mut Part<U>, items: &[T], c: u64, f: &F)
-    requires len { length items.now ≡ length (part_items part.old) }
-    requires callable { All (F.pre f.now) items.now }
-    requires known { Gives (F.post f.now) (take (1 - c) items.now) (take (1 - c) (part_items part.old)) }
+// The part of chunk `c` of so many places, filled. The first value of chunk 0 is there already.
+fn fill_part<U: Copy, F: Fn(usize) -> U>(part: &mut Part<U>, len: usize, size: u32, c: u64, f: &F)
+    requires few { len < 2 ^ 62 }
+    requires wide { length (chunk_of size (range_with_len 0 len) c) ≡ length (part_items part.old) }
+    requires callable { All (F.pre f.now) (range_with_len 0 len) }
+    requires known { Gives (F.post f.now) (take (1 - c) (chunk_of size (range_with_len 0 len) c)) (take (1 - c) (part_items part.old)) }
     ensures place { SamePlaces part.old part.new }
-    ensures values { Gives (F.post f.now) items.now (part_items part.new) }
+    ensures values { Gives (F.post f.now) (chunk_of size (range_with_len 0 len) c) (part_items part.new) }
 {
     let known = 1_u64.saturating_sub(c) as usize;
-    fill_behind(part.as_mut_slice(), items, known, f);
+    fill_behind(part.as_mut_slice(), chunk_start(len, size, c), known, f);
 }
 
 // All that one worker does: it fills the parts that it draws, until none is left.
-fn fill_drawn<T: Copy, U: Copy, F: Fn(T) -> U, N: Goods<Part<U>>, G: Gate>(
+fn fill_drawn<U: Copy, F: Fn(usize) -> U, N: Goods<Part<U>>, G: Gate>(
     board: &DealBoard<Part<U>, N>,
     mine: &mut Seat<Part<U>>,
     gate: &G,
     worker: u32,
-    items: &[T],
+    len: usize,
     size: u32,
     f: &F,
 )
     requires board { mine.old.board ≡ board.now.board }
     requires unspent { 0 < mine.old.view.share }
     requires empty { mine.old.hand ≡ None }
-    requires callable { All (F.pre f.now) items.now }
-    requires serves { Serves (F.post f.now) size items.now N.items N.good }
+    requires callable { All (F.pre f.now) (range_with_len 0 len) }
+    requires len { len < 2 ^ 62 }
+    requires serves { Serves (F.post f.now) size (range_with_len 0 len) N.items N.good }
     ensures board { mine.new.board ≡ mine.old.board }
     ensures weight { mine.new.view.weight ≡ mine.old.view.weight }
     ensures spent { (mine.new.view.share ≡ 0) × (mine.new.hand ≡ None) }
 {
     while let Some(c) = board.deal(mine) {
         gate.after_claim(worker, Some(c));
-        fill_part(mine.item_mut(board, c), chunk_slice(items, size, c), c, f);
+        fill_part(mine.item_mut(board, c), len, size, c, f);
     }
     gate.after_claim(worker, None);
 }
 
 // That many workers, each in a thread of its own where threads can be made.
 fn fill_all<
-    T: Copy + Sync,
     U: Copy + Send + Sync,
-    F: Fn(T) -> U + Sync,
+    F: Fn(usize) -> U + Sync,
     N: Goods<Part<U>> + Send + Sync,
     G: Gate,
     R: Threads + Sync,
@@ -86,21 +87,22 @@ fn fill_all<
     gate: &G,
     first: u32,
     workers: u32,
-    items: &[T],
+    len: usize,
     size: u32,
     f: &F,
 ) -> Seat<Part<U>>
     requires board { mine.board ≡ board.now.board }
     requires new { (mine.view ≡ fresh workers) × (mine.hand ≡ None) }
     requires workers { (1 ≤ workers) × (first + workers ≤ 64) }
-    requires callable { All (F.pre f.now) items.now }
-    requires serves { Serves (F.post f.now) size items.now N.items N.good }
+    requires callable { All (F.pre f.now) (range_with_len 0 len) }
+    requires len { len < 2 ^ 62 }
+    requires serves { Serves (F.post f.now) size (range_with_len 0 len) N.items N.good }
     ensures board { result.board ≡ board.now.board }
     ensures weight { result.view.weight ≡ workers }
     ensures spent { (result.view.share ≡ 0) × (result.hand ≡ None) }
 {
     if workers == 1 {
-        fill_drawn(board, &mut mine, gate, first, items, size, f);
+        fill_drawn(board, &mut mine, gate, first, len, size, f);
         return mine;
     }
     let half = workers / 2;
@@ -110,13 +112,13 @@ fn fill_all<
     let (mut one, two) = join(
         rt,
         move || -> Seat<Part<U>>
-            requires { IsSync R.row × (mine.board ≡ board.now.board) × (mine.view ≡ fresh rest) × (mine.hand ≡ None) × (1 ≤ rest) × (first + rest ≤ 64) × All (F.pre f.now) items.now × Serves (F.post f.now) size items.now N.items N.good }
+            requires { IsSync R.row × (mine.board ≡ board.now.board) × (mine.view ≡ fresh rest) × (mine.hand ≡ None) × (1 ≤ rest) × (first + rest ≤ 64) × (len < 2 ^ 62) × All (F.pre f.now) (range_with_len 0 len) × Serves (F.post f.now) size (range_with_len 0 len) N.items N.good }
             ensures { (result.board ≡ board.entry.now.board) × (result.view.weight ≡ rest) × (result.view.share ≡ 0) × (result.hand ≡ None) }
-        { fill_all(rt, board, mine, gate, first, rest, items, size, f) },
+        { fill_all(rt, board, mine, gate, first, rest, len, size, f) },
         move || -> Seat<Part<U>>
-            requires { IsSync R.row × (theirs.board ≡ board.now.board) × (theirs.view ≡ fresh half) × (theirs.hand ≡ None) × (1 ≤ half) × (after + half ≤ 64) × All (F.pre f.now) items.now × Serves (F.post f.now) size items.now N.items N.good }
+            requires { IsSync R.row × (theirs.board ≡ board.now.board) × (theirs.view ≡ fresh half) × (theirs.hand ≡ None) × (1 ≤ half) × (after + half ≤ 64) × (len < 2 ^ 62) × All (F.pre f.now) (range_with_len 0 len) × Serves (F.post f.now) size (range_with_len 0 len) N.items N.good }
             ensures { (result.board ≡ board.entry.now.board) × (result.view.weight ≡ half) × (result.view.share ≡ 0) × (result.hand ≡ None) }
-        { fill_all(rt, board, theirs, gate, after, half, items, size, f) },
+        { fill_all(rt, board, theirs, gate, after, half, len, size, f) },
     );
     board.join(&mut one, two);
     one
@@ -142,9 +144,8 @@ fn glue_back<U: Copy, N: Goods<Part<U>>>(parts: Returned<Part<U>, N>) -> Part<U>
 
 // The parts, dealt to so many workers, filled and glued. Where there is no memory for the board, they come back.
 fn fill_parts<
-    T: Copy + Sync,
     U: Copy + Send + Sync,
-    F: Fn(T) -> U + Sync,
+    F: Fn(usize) -> U + Sync,
     N: Goods<Part<U>> + Send + Sync,
     G: Gate,
     R: Threads + Sync,
@@ -153,7 +154,7 @@ fn fill_parts<
     alloc: Global,
     workers: u32,
     gate: &G,
-    items: &[T],
+    len: usize,
     size: u32,
     f: &F,
     parts: Vec<Part<U>>,
@@ -161,8 +162,9 @@ fn fill_parts<
     requires named { parts.items ≡ N.items }
     requires few { (0 < length N.items) × (length N.items < 2 ^ 62) }
     requires workers { (1 ≤ workers) × (workers ≤ 64) }
-    requires callable { All (F.pre f.now) items.now }
-    requires serves { Serves (F.post f.now) size items.now N.items N.good }
+    requires callable { All (F.pre f.now) (range_with_len 0 len) }
+    requires len { len < 2 ^ 62 }
+    requires serves { Serves (F.post f.now) size (range_with_len 0 len) N.items N.good }
     requires in_place { InPlace N.items N.good }
     requires place { (start : Ptr) × Chain (type_size U.row) start N.items }
     requires size { Fits (type_size U.row) (length (flat_map part_items N.items)) }
@@ -171,7 +173,7 @@ fn fill_parts<
 {
     match DealBoard::<Part<U>, N>::new(alloc, parts, workers) {
         Ok((board, mine)) => {
-            let mine = fill_all(rt, &board, mine, gate, 0, workers, items, size, f);
+            let mine = fill_all(rt, &board, mine, gate, 0, workers, len, size, f);
             Ok(glue_back(board.close(mine)))
         }
         Err(parts) => Err(parts),
@@ -179,108 +181,170 @@ fn fill_parts<
 }
 
 // The same, where each part has a place for each item of its chunk.
-fn deal_parts<
-    T: Copy + Sync,
-    U: Copy + Send + Sync,
-    F: Fn(T) -> U + Sync,
-    G: Gate,
-    R: Threads + Sync,
->(
+fn deal_parts<U: Copy + Send + Sync, F: Fn(usize) -> U + Sync, G: Gate, R: Threads + Sync>(
     rt: &R,
     alloc: Global,
     workers: u32,
     gate: &G,
-    items: &[T],
+    len: usize,
     size: u32,
     f: &F,
     parts: Vec<Part<U>>,
 ) -> Result<Part<U>, Vec<Part<U>>>
     requires few { (0 < length parts.items) × (length parts.items < 2 ^ 62) }
     requires workers { (1 ≤ workers) × (workers ≤ 64) }
-    requires callable { All (F.pre f.now) items.now }
-    requires chunks { (0 < size) × (length parts.items ≡ chunk_count size (length items.now)) }
-    requires wide { (c : ℕ) (part : Piece U) → slice_get parts.items c ≡ Some part → length (chunk_of size items.now c) ≡ length (part_items part) }
-    requires known { (c : ℕ) (part : Piece U) → slice_get parts.items c ≡ Some part → Gives (F.post f.now) (take (1 - c) (chunk_of size items.now c)) (take (1 - c) (part_items part)) }
+    requires callable { All (F.pre f.now) (range_with_len 0 len) }
+    requires len { len < 2 ^ 62 }
+    requires chunks { (0 < size) × (length parts.items ≡ chunk_count size len) }
+    requires wide { (c : ℕ) (part : Piece U) → slice_get parts.items c ≡ Some part → length (chunk_of size (range_with_len 0 len) c) ≡ length (part_items part) }
+    requires known { (c : ℕ) (part : Piece U) → slice_get parts.items c ≡ Some part → Gives (F.post f.now) (take (1 - c) (chunk_of size (range_with_len 0 len) c)) (take (1 - c) (part_items part)) }
     requires place { (start : Ptr) × Chain (type_size U.row) start parts.items }
     requires size { Fits (type_size U.row) (length (flat_map part_items parts.items)) }
     ensures place { IfOk result (λ p. (start : Ptr) → Chain (type_size U.row) start parts.items → part_start p ≡ start) }
     ensures wide { IfOk result (λ p. length (part_items p) ≡ length (flat_map part_items parts.items)) }
-    ensures values { IfOk result (λ p. Gives (F.post f.now) items.now (part_items p)) }
+    ensures values { IfOk result (λ p. Gives (F.post f.now) (range_with_len 0 len) (part_items p)) }
     ensures back { IfErr result (λ v. v.items ≡ parts.items) }
 {
-    fill_parts::<T, U, F, Brand, G, R>(rt, alloc, workers, gate, items, size, f, parts)
+    fill_parts::<U, F, Brand, G, R>(rt, alloc, workers, gate, len, size, f, parts)
 }
 
 // The part filled with what the function gives for each item, of which the first is there already. Where there is no memory for the board, its
 // values are unknown.
-fn fill_whole<
-    T: Copy + Sync,
-    U: Copy + Send + Sync,
-    F: Fn(T) -> U + Sync,
-    G: Gate,
-    R: Threads + Sync,
->(
+fn fill_whole<U: Copy + Send + Sync, F: Fn(usize) -> U + Sync, G: Gate, R: Threads + Sync>(
     rt: &R,
     alloc: Global,
     plan: &Plan,
     gate: &G,
-    items: &[T],
+    len: usize,
     f: &F,
     whole: Part<U>,
     room: Vec<Part<U>>,
 ) -> (Part<U>, Result<(), AllocError>)
-    requires some { (0 < length items.now) × (length items.now < 2 ^ 62) }
-    requires callable { All (F.pre f.now) items.now }
-    requires wide { (length (part_items whole) ≡ length items.now) × Fits (type_size U.row) (length items.now) }
-    requires known { Gives (F.post f.now) (take 1 items.now) (take 1 (part_items whole)) }
-    requires room { (room.items ≡ []) × (chunk_count plan.now.chunk (length items.now) ≤ vec_capacity room) }
+    requires some { (0 < len) × (len < 2 ^ 62) }
+    requires callable { All (F.pre f.now) (range_with_len 0 len) }
+    requires wide { (length (part_items whole) ≡ len) × Fits (type_size U.row) len }
+    requires known { Gives (F.post f.now) (take 1 (range_with_len 0 len)) (take 1 (part_items whole)) }
+    requires room { (room.items ≡ []) × (chunk_count plan.now.chunk len ≤ vec_capacity room) }
     ensures place { SamePlaces whole result.0 }
-    ensures values { IfOk result.1 (λ _. Gives (F.post f.now) items.now (part_items result.0)) }
+    ensures values { IfOk result.1 (λ _. Gives (F.post f.now) (range_with_len 0 len) (part_items result.0)) }
 {
     let size = plan.chunk;
-    let count = count_chunks(items.len(), size);
+    let count = count_chunks(len, size);
     let workers = (plan.workers as usize).min(count) as u32;
     let parts = whole.cut_all(size as usize, count, room);
-    match deal_parts(rt, alloc, workers, gate, items, size, f, parts) {
+    match deal_parts(rt, alloc, workers, gate, len, size, f, parts) {
         Ok(filled) => (filled, Ok(())),
         Err(parts) => (Part::glue_all(parts), Err(AllocError)),
     }
 }
 
-// A list with a place for each item, with the first value in it.
-fn begin_list<T: Copy, U: Copy, F: Fn(T) -> U>(
-    alloc: Global,
-    items: &[T],
-    f: &F,
-) -> Result<Vec<U>, AllocError>
-    requires some { 0 < length items.now }
-    requires callable { All (F.pre f.now) items.now }
-    ensures len { IfOk result (λ v. length v.items ≡ length items.now) }
-    ensures known { IfOk result (λ v. Gives (F.post f.now) (take 1 items.now) (take 1 v.items)) }
+// A list of that many copies.
+pub(crate) fn copies<U: Copy>(alloc: Global, item: U, len: usize) -> Result<Vec<U>, AllocError>
+    ensures len { IfOk result (λ v. length v.items ≡ len) }
+    ensures items { IfOk result (λ v. v.items ≡ replicate len item) }
 {
-    copies(alloc, f(items[0]), items.len())
+    let mut list = Vec::with_capacity(alloc, len)?;
+    list.resize(len, item)?;
+    Ok(list)
 }
 
-/// What the function gives for each item, by one call each. The list is made of copies of the first value and filled in place behind it, each
-/// chunk by the worker that draws it.
-pub(crate) fn map_in_place<
-    T: Copy + Sync,
-    U: Copy + Send + Sync,
-    F: Fn(T) -> U + Sync,
-    G: Gate,
-    R: Threads + Sync,
->(rt: &R, alloc: Global, plan: &Plan, gate: &G, items: &[T], f: &F) -> Result<Vec<U>, AllocError>
-    requires some { (0 < length items.now) × (length items.now < 2 ^ 62) }
-    requires callable { All (F.pre f.now) items.now }
-    ensures { IfOk result (λ v. Gives (F.post f.now) items.now v.items) }
+// A list with so many places, with the first value in it.
+fn begin_list<U: Copy, F: Fn(usize) -> U>(
+    alloc: Global,
+    len: usize,
+    f: &F,
+) -> Result<Vec<U>, AllocError>
+    requires some { 0 < len }
+    requires callable { All (F.pre f.now) (range_with_len 0 len) }
+    ensures len { IfOk result (λ v. length v.items ≡ len) }
+    ensures known { IfOk result (λ v. Gives (F.post f.now) (take 1 (range_with_len 0 len)) (take 1 v.items)) }
 {
-    let room = Vec::with_capacity(alloc, count_chunks(items.len(), plan.chunk))?;
-    let mut out = begin_list(alloc, items, f)?;
+    copies(alloc, f(0), len)
+}
+
+// The list made of copies of the first value, and filled in place behind it, each chunk by the worker that draws it.
+fn fill_by_parts<U: Copy + Send + Sync, F: Fn(usize) -> U + Sync, G: Gate, R: Threads + Sync>(
+    rt: &R,
+    alloc: Global,
+    plan: &Plan,
+    gate: &G,
+    len: usize,
+    f: &F,
+) -> Result<Vec<U>, AllocError>
+    requires some { (0 < len) × (len < 2 ^ 62) }
+    requires callable { All (F.pre f.now) (range_with_len 0 len) }
+    ensures { IfOk result (λ v. Gives (F.post f.now) (range_with_len 0 len) v.items) }
+{
+    let room = Vec::with_capacity(alloc, count_chunks(len, plan.chunk))?;
+    let mut out = begin_list(alloc, len, f)?;
     let fill = |whole: Part<U>, room: Vec<Part<U>>| -> (Part<U>, Result<(), AllocError>)
-        requires { (0 < length items.now) × (length items.now < 2 ^ 62) × All (F.pre f.now) items.now × (length (part_items whole) ≡ length items.now) × Fits (type_size U.row) (length items.now) × Gives (F.post f.now) (take 1 items.now) (take 1 (part_items whole)) × (room.items ≡ []) × (chunk_count plan.now.chunk (length items.now) ≤ vec_capacity room) }
+        requires { (0 < len) × (len < 2 ^ 62) × All (F.pre f.now) (range_with_len 0 len) × (length (part_items whole) ≡ len) × Fits (type_size U.row) len × Gives (F.post f.now) (take 1 (range_with_len 0 len)) (take 1 (part_items whole)) × (room.items ≡ []) × (chunk_count plan.now.chunk len ≤ vec_capacity room) }
         ensures place { SamePlaces whole result.0 }
-        ensures values { IfOk result.1 (λ _. Gives (F.post f.entry.now) items.entry.now (part_items result.0)) }
-    { fill_whole(rt, alloc, plan, gate, items, f, whole, room) };
+        ensures values { IfOk result.1 (λ _. Gives (F.post f.entry.now) (range_with_len 0 len) (part_items result.0)) }
+    { fill_whole(rt, alloc, plan, gate, len, f, whole, room) };
     with_part(out.as_mut_slice(), room, fill)?;
     Ok(out)
+}
+
+// A list that is made longer, with the values of the places that it gets.
+fn extend_to<U: Copy, F: Fn(usize) -> U>(
+    out: &mut Vec<U>,
+    len: usize,
+    f: &F,
+) -> Result<(), AllocError>
+    requires some { 0 < length out.old.items }
+    requires longer { length out.old.items ≤ len }
+    requires callable { All (F.pre f.now) (range_with_len 0 len) }
+    requires known { Gives (F.post f.now) (range_with_len 0 (length out.old.items)) out.old.items }
+    ensures { IfOk result (λ _. Gives (F.post f.now) (range_with_len 0 len) out.new.items) }
+{
+    let known = out.len();
+    let blank = out[0];
+    out.resize(len, blank)?;
+    fill_behind(out.as_mut_slice(), 0, known, f);
+    Ok(())
+}
+
+// All that one worker does alone: the chunks in turn, each right behind the one before it.
+fn fill_in_turn<U: Copy, F: Fn(usize) -> U, G: Gate>(
+    alloc: Global,
+    plan: &Plan,
+    gate: &G,
+    len: usize,
+    f: &F,
+) -> Result<Vec<U>, AllocError>
+    requires some { (0 < len) × (len < 2 ^ 62) }
+    requires callable { All (F.pre f.now) (range_with_len 0 len) }
+    ensures { IfOk result (λ v. Gives (F.post f.now) (range_with_len 0 len) v.items) }
+{
+    let first = f(0);
+    let mut out = Vec::with_capacity(alloc, len)?;
+    out.push(first)?;
+    for c in 0..count_chunks(len, plan.chunk) as u64 {
+        gate.after_claim(0, Some(c));
+        extend_to(&mut out, chunk_start(len, plan.chunk, c + 1), f)?;
+    }
+    gate.after_claim(0, None);
+    Ok(out)
+}
+
+/// What the function gives for the number of each place, by one call each.
+pub(crate) fn fill_by_number<
+    U: Copy + Send + Sync,
+    F: Fn(usize) -> U + Sync,
+    G: Gate,
+    R: Threads + Sync,
+>(rt: &R, alloc: Global, plan: &Plan, gate: &G, len: usize, f: &F) -> Result<Vec<U>, AllocError>
+    requires len { len < 2 ^ 62 }
+    requires callable { All (F.pre f.now) (range_with_len 0 len) }
+    ensures { IfOk result (λ v. Gives (F.post f.now) (range_with_len 0 len) v.items) }
+{
+    if len == 0 {
+        gate.after_claim(0, None);
+        return Ok(Vec::new(alloc));
+    }
+    if plan.workers == 1 || len <= plan.chunk as usize {
+        return fill_in_turn(alloc, plan, gate, len, f);
+    }
+    fill_by_parts(rt, alloc, plan, gate, len, f)
 }

@@ -1,9 +1,9 @@
 //! A function of each item.
 ghost use Rattle.std.specs.Prelude.{◌≡◌, ◌<◌, ◌^◌, ◌++◌, List, length, All, map, IfOk};
-ghost use Rattle.par_passes.specs.Passes.{Gives};
+ghost use Rattle.par_passes.specs.Passes.{GaveAt, Gives};
 
 use crate::chunk::{chunk_slice, count_chunks};
-use crate::dealt::map_in_place;
+use crate::dealt::fill_by_number;
 use chunk_seats::{Gate, Plan};
 use scan_lookback::Lift;
 use std::alloc::{AllocError, Global};
@@ -46,6 +46,25 @@ fn map_in_turn<T: Copy, U: Copy, F: Fn(T) -> U, G: Gate>(
     Ok(out)
 }
 
+// The same by workers: the item of a number is asked of the items.
+fn map_by_number<
+    T: Copy + Sync,
+    U: Copy + Send + Sync,
+    F: Fn(T) -> U + Sync,
+    G: Gate,
+    R: Threads + Sync,
+>(rt: &R, alloc: Global, plan: &Plan, gate: &G, items: &[T], f: &F) -> Result<Vec<U>, AllocError>
+    requires len { length items.now < 2 ^ 62 }
+    requires callable { All (F.pre f.now) items.now }
+    ensures { IfOk result (λ v. Gives (F.post f.now) items.now v.items) }
+{
+    let at = |k: usize| -> U
+        requires { (k < length items.now) × All (F.pre f.now) items.now }
+        ensures { GaveAt (F.post f.entry.now) items.entry.now k result }
+    { f(items[k]) };
+    fill_by_number(rt, alloc, plan, gate, items.len(), &at)
+}
+
 /// What the function gives for each item, in the items' order. It is called once for each item. Where it computes, the list is the same for
 /// every plan and gate. The only refusal is that memory is out.
 pub(crate) fn map<
@@ -61,12 +80,10 @@ pub(crate) fn map<
     ensures each { IfOk result (λ v. Gives (F.post f.now) items.now v.items) }
     ensures values { IfOk result (λ v. (g : T → U) → All (λ x. (r : U) → F.post f.now x r → r ≡ g x) items.now → v.items ≡ map g items.now) }
 {
-    let len = items.len();
-    let size = plan.chunk;
-    if plan.workers == 1 || len <= size as usize {
+    if plan.workers == 1 || items.len() <= plan.chunk as usize {
         return map_in_turn(alloc, plan, gate, items, f);
     }
-    map_in_place(rt, alloc, plan, gate, items, f)
+    map_by_number(rt, alloc, plan, gate, items, f)
 }
 
 /// The same for a function that contracts can name.

@@ -7,7 +7,6 @@ mod crew;
 mod dealt;
 mod each;
 mod fewest;
-mod fill;
 mod marked;
 mod numbered;
 mod order;

@@ -5,7 +5,8 @@ ghost use Rattle.chunk_seats.specs.Chunks.{chunk_of};
 ghost use Rattle.par_passes.specs.Passes.{Gives, marked};
 
 use crate::chunk::{chunk_slice, chunk_start, count_chunks};
-use crate::crew::{by_chunks, by_whole_chunks};
+use crate::crew::by_chunks;
+use crate::dealt::fill_by_number;
 use crate::marked::push_if;
 use chunk_seats::{Gate, Plan};
 use std::alloc::{AllocError, Global};
@@ -108,138 +109,6 @@ pub(crate) fn positions<T: Copy + Sync, F: Fn(T) -> bool + Sync, G: Gate, R: Thr
     by_chunks(rt, alloc, plan, gate, count, items.len(), &make)
 }
 
-// What the function gives for each number from `from` up to `to`, right behind what is in the list.
-fn tabulate_onto<U: Copy, F: Fn(u32) -> U>(
-    from: u32,
-    to: u32,
-    f: &F,
-    out: &mut Vec<U>,
-) -> Result<(), AllocError>
-    requires order { from ≤ to }
-    requires callable { All (F.pre f.now) (range_with_len from (to - from)) }
-    ensures { IfOk result (λ _. (before : List ℕ) → Gives (F.post f.now) before out.old.items → Gives (F.post f.now) (before ++ range_with_len from (to - from)) out.new.items) }
-{
-    for k in from..to {
-        out.push(f(k))?;
-    }
-    Ok(())
-}
-
-// The same for a chunk of the numbers below `count`.
-fn tabulate_chunk_onto<U: Copy, F: Fn(u32) -> U>(
-    count: u32,
-    size: u32,
-    c: u64,
-    f: &F,
-    out: &mut Vec<U>,
-) -> Result<(), AllocError>
-    requires callable { All (F.pre f.now) (range_with_len 0 count) }
-    ensures { IfOk result (λ _. (before : List ℕ) → Gives (F.post f.now) before out.old.items → Gives (F.post f.now) (before ++ chunk_of size (range_with_len 0 count) c) out.new.items) }
-{
-    let from = chunk_start(count as usize, size, c) as u32;
-    let to = from + (count - from).min(size);
-    tabulate_onto(from, to, f, out)
-}
-
-// The values of chunk 0, of which the first is known.
-fn tabulate_first<U: Copy, F: Fn(u32) -> U>(
-    alloc: Global,
-    count: u32,
-    size: u32,
-    first: U,
-    f: &F,
-) -> Result<Vec<U>, AllocError>
-    requires some { (0 < count) × (0 < size) }
-    requires callable { All (F.pre f.now) (range_with_len 0 count) }
-    requires known { F.post f.now 0 first }
-    ensures { IfOk result (λ v. Gives (F.post f.now) (chunk_of size (range_with_len 0 count) 0) v.items) }
-{
-    let mut out = Vec::with_capacity(alloc, size as usize)?;
-    out.push(first)?;
-    tabulate_onto(1, count.min(size), f, &mut out)?;
-    Ok(out)
-}
-
-// The values of one chunk.
-fn tabulate_chunk<U: Copy, F: Fn(u32) -> U>(
-    alloc: Global,
-    count: u32,
-    size: u32,
-    c: u64,
-    f: &F,
-) -> Result<Vec<U>, AllocError>
-    requires callable { All (F.pre f.now) (range_with_len 0 count) }
-    ensures { IfOk result (λ v. Gives (F.post f.now) (chunk_of size (range_with_len 0 count) c) v.items) }
-{
-    let mut out = Vec::with_capacity(alloc, size as usize)?;
-    tabulate_chunk_onto(count, size, c, f, &mut out)?;
-    Ok(out)
-}
-
-// The values of one chunk, where that of number 0 is known.
-fn tabulate_behind<U: Copy, F: Fn(u32) -> U>(
-    alloc: Global,
-    count: u32,
-    size: u32,
-    c: u64,
-    first: U,
-    f: &F,
-) -> Result<Vec<U>, AllocError>
-    requires some { (0 < count) × (0 < size) }
-    requires callable { All (F.pre f.now) (range_with_len 0 count) }
-    requires known { F.post f.now 0 first }
-    ensures values { IfOk result (λ v. Gives (F.post f.now) (chunk_of size (range_with_len 0 count) c) v.items) }
-    ensures whole { IfOk result (λ v. length v.items ≡ min size (count - c * size)) }
-{
-    if c == 0 {
-        return tabulate_first(alloc, count, size, first, f);
-    }
-    tabulate_chunk(alloc, count, size, c, f)
-}
-
-// All that one worker does alone: the chunks in turn, each right behind the one before it.
-fn tabulate_in_turn<U: Copy, F: Fn(u32) -> U, G: Gate>(
-    alloc: Global,
-    plan: &Plan,
-    gate: &G,
-    count: u32,
-    f: &F,
-) -> Result<Vec<U>, AllocError>
-    requires callable { All (F.pre f.now) (range_with_len 0 count) }
-    ensures { IfOk result (λ v. Gives (F.post f.now) (range_with_len 0 count) v.items) }
-{
-    let mut out = Vec::with_capacity(alloc, count as usize)?;
-    for c in 0..count_chunks(count as usize, plan.chunk) as u64 {
-        gate.after_claim(0, Some(c));
-        tabulate_chunk_onto(count, plan.chunk, c, f, &mut out)?;
-    }
-    gate.after_claim(0, None);
-    Ok(out)
-}
-
-// The same by workers. The first value is made before: the list is first of copies of it.
-fn tabulate_in_chunks<U: Copy + Send + Sync, F: Fn(u32) -> U + Sync, G: Gate, R: Threads + Sync>(
-    rt: &R,
-    alloc: Global,
-    plan: &Plan,
-    gate: &G,
-    count: u32,
-    f: &F,
-) -> Result<Vec<U>, AllocError>
-    requires some { 0 < count }
-    requires callable { All (F.pre f.now) (range_with_len 0 count) }
-    ensures { IfOk result (λ v. Gives (F.post f.now) (range_with_len 0 count) v.items) }
-{
-    let size = plan.chunk;
-    let first = f(0);
-    let make = |c: u64| -> Result<Vec<U>, AllocError>
-        requires { (0 < count) × (0 < size) × All (F.pre f.now) (range_with_len 0 count) × F.post f.now 0 first }
-        ensures values { IfOk result (λ v. Gives (F.post f.entry.now) (chunk_of size (range_with_len 0 count) c) v.items) }
-        ensures whole { IfOk result (λ v. length v.items ≡ min size (count - c * size)) }
-    { tabulate_behind(alloc, count, size, c, first, f) };
-    by_whole_chunks(rt, alloc, plan, gate, first, count as usize, &make)
-}
-
 /// What the function gives for each number below `count`, in order. It is called once for each number. Where it computes, the list is the
 /// same for every plan and gate. The only refusal is that memory is out.
 pub(crate) fn tabulate<U: Copy + Send + Sync, F: Fn(u32) -> U + Sync, G: Gate, R: Threads + Sync>(
@@ -255,8 +124,9 @@ pub(crate) fn tabulate<U: Copy + Send + Sync, F: Fn(u32) -> U + Sync, G: Gate, R
     ensures each { IfOk result (λ v. Gives (F.post f.now) (range_with_len 0 count) v.items) }
     ensures values { IfOk result (λ v. (g : ℕ → U) → All (λ k. (r : U) → F.post f.now k r → r ≡ g k) (range_with_len 0 count) → v.items ≡ map g (range_with_len 0 count)) }
 {
-    if plan.workers == 1 || count <= plan.chunk {
-        return tabulate_in_turn(alloc, plan, gate, count, f);
-    }
-    tabulate_in_chunks(rt, alloc, plan, gate, count, f)
+    let at = |k: usize| -> U
+        requires { (k < 2 ^ 32) × F.pre f.now k }
+        ensures { F.post f.entry.now k result }
+    { f(k as u32) };
+    fill_by_number(rt, alloc, plan, gate, count as usize, &at)
 }

@@ -1,5 +1,6 @@
+use Rattle.std.specs.List.{range_with_len}
 use Rattle.par_passes.specs.Dealt.{IsFilled}
 use Rattle.par_passes.proofs.dealt.deal_parts.Given as goal
 
 abbrev pub ghosts-fill_parts : goal.ghosts-fill_parts
-ghosts-fill_parts g a = record { items = a.parts.items; good = IsFilled (λ x r. g.F.Fn.post a.f.now (x, tt) r) a.size a.items.now a.parts.items }
+ghosts-fill_parts g a = record { items = a.parts.items; good = IsFilled (λ x r. g.F.Fn.post a.f.now (x, tt) r) a.size (range_with_len 0 a.len) a.parts.items }

@@ -7,4 +7,4 @@ pub returns-then-plan-eq1-clause-values : goal.returns-then-plan-eq1-clause-valu
 returns-then-plan-eq1-clause-values g c = if_ok c.map_in_turn.result c.map_in_turn.ensures (λ v all. gives_maps (given.F-post g c.args.f.now) c.args.items.now v.items all)
 
 pub returns-clause-values : goal.returns-clause-values
-returns-clause-values g c = if_ok c.map_in_place.result c.map_in_place.ensures (λ v all. gives_maps (given.F-post g c.args.f.now) c.args.items.now v.items all)
+returns-clause-values g c = if_ok c.map_by_number.result c.map_by_number.ensures (λ v all. gives_maps (given.F-post g c.args.f.now) c.args.items.now v.items all)

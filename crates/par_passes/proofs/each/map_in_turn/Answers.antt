@@ -1,4 +1,4 @@
-use Rattle.std.proofs.Common.{◌≡◌, ◌*◌, length, take, ap, sym, subst, arith}
+use Rattle.std.proofs.Common.{◌≡◌, length, arith}
 use Rattle.chunk_seats.specs.Chunks.{chunk_count}
 use Rattle.par_passes.proofs.Giving.{chunks_none, gives_chunk_more, gives_whole}
 use Rattle.par_passes.proofs.each.map_in_turn.Given as given
