@@ -23,7 +23,7 @@ fn words<R: Env + AllocGlobal>(rt: &R) -> io::Result<Vec<String>> {
 
 fn main(rt: HostRuntime) -> ExitCode {
     let Ok(words) = words(&rt) else {
-        return ExitCode::from(Status::NoMemory as u8);
+        return ExitCode::from(Status::NoMemory.number());
     };
     let mut input = Reader::new(rt.stdin());
     let mut out = Writer::new(rt.stdout());
@@ -37,5 +37,5 @@ fn main(rt: HostRuntime) -> ExitCode {
         &mut notes,
         &OpenGate,
     );
-    ExitCode::from(status as u8)
+    ExitCode::from(status.number())
 }

@@ -1,4 +1,5 @@
 pub mod Causes
+pub mod Statuses
 pub mod Coded
 pub mod Memory
 pub mod Reading

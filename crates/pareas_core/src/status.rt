@@ -1,30 +1,54 @@
 // How the program ends.
+ghost use Rattle.std.specs.Prelude.{◌≡◌};
+ghost use Rattle.pareas_core.specs.Statuses.{number_of};
 
-/// The exit status. Its number is what the process ends with.
+/// What a call of the program comes to.
 #[derive(Clone, Copy, PartialEq, Eq, Debug)]
 pub enum Status {
     /// The command's result was written whole.
-    Done = 0,
+    Done,
     /// The source has a diagnostic.
-    Refused = 1,
+    Refused,
     /// The words are refused, or ask for help or the version.
-    Usage = 2,
+    Usage,
     /// A read failed.
-    ReadFault = 3,
+    ReadFault,
     /// A write failed.
-    WriteFault = 4,
+    WriteFault,
     /// The source passes a limit.
-    Limit = 5,
+    Limit,
     /// Out of memory.
-    NoMemory = 6,
+    NoMemory,
     /// The machine is still running after its last step.
-    Running = 7,
+    Running,
     /// The machine has faulted.
-    Machine = 8,
+    Machine,
     /// The grammar isn't LL(1) and LLP(1,1).
-    Conflict = 9,
+    Conflict,
     /// The file isn't an image that can be loaded.
-    BadImage = 10,
+    BadImage,
     /// The file isn't a grammar of the form that is read.
-    BadGrammar = 11,
+    BadGrammar,
+}
+
+impl Status {
+    /// The exit status of the process.
+    pub fn number(self) -> u8
+        ensures { result ≡ number_of self }
+    {
+        match self {
+            Status::Done => 0,
+            Status::Refused => 1,
+            Status::Usage => 2,
+            Status::ReadFault => 3,
+            Status::WriteFault => 4,
+            Status::Limit => 5,
+            Status::NoMemory => 6,
+            Status::Running => 7,
+            Status::Machine => 8,
+            Status::Conflict => 9,
+            Status::BadImage => 10,
+            Status::BadGrammar => 11,
+        }
+    }
 }
