@@ -1,11 +1,11 @@
 -- Values that calls gave, item by item and chunk by chunk.
-use Rattle.std.proofs.Common.{◌≡◌, ℕ, zero, suc, ◌+◌, ◌-◌, ◌*◌, ◌<◌, ◌≤◌, min, All, List, [], ◌∷◌, ◌++◌, length, get_or, take, drop, map, replicate, flat_map, Option, Some, slice_get, slice_set, refl, sym, ap, ◌∙◌, subst, arith, add-one, suc-mul, take-add, append_assoc}
+use Rattle.std.proofs.Common.{◌≡◌, ℕ, zero, suc, ◌+◌, ◌-◌, ◌*◌, ◌<◌, ◌≤◌, min, All, List, [], ◌∷◌, ◌++◌, length, get_or, take, drop, map, replicate, flat_map, Option, Some, slice_get, slice_set, refl, sym, ap, ◌∙◌, subst, arith}
 use Rattle.std.specs.List.{range_with_len}
-use Rattle.std.proofs.lemmas.List.{append-nil, take_more, take_more_set, take_all}
+use Rattle.std.proofs.lemmas.List.{take_more, take_more_set, take_all}
 use Rattle.std.proofs.lemmas.List.FromFn.{length-range_with_len, get_or-range_with_len}
 use Rattle.chunk_seats.specs.Chunks.{chunk_of, chunk_count}
 use Rattle.par_passes.specs.Passes.{GaveAt, Gives, Maps}
-use Rattle.par_passes.proofs.Together.{together, whole_list}
+use Rattle.par_passes.proofs.Together.{together}
 use Rattle.par_passes.proofs.Marking.{range_chunk, take_range, length_chunk}
 
 module _ {T U : Type 0} (post : T → U → Type 0) where
@@ -63,35 +63,6 @@ module _ {T U : Type 0} (post : T → U → Type 0) where
   first_copy (v ∷ items) zero x y out some many here gave is = absurd (omega arith)
   first_copy (v ∷ items) (suc n) x y out some many here gave is =
       subst (λ l. Gives post (v ∷ []) (take 1 l)) (sym is) (gives_before v y [] [] (subst (λ a. post a y) here gave) gives_none)
-
-  -- values behind those that are there, from none on, one by one, to all
-  pub behind_none : (before part : List T) (out : List U) → Gives post before out → Gives post (before ++ take 0 part) out
-  behind_none before part out = subst (λ l. Gives post l out) (sym (append-nil before))
-
-  pub behind_more : (before part : List T) (k : ℕ) (x : T) (out more : List U) (y : U) → k < length part → x ≡ get_or part k x → post x y → more ≡ out ++ y ∷ [] → Gives post (before ++ take k part) out → Gives post (before ++ take (k + 1) part) more
-  behind_more before part k x out more y less here gave added so_far =
-      let next : (before ++ take k part) ++ x ∷ [] ≡ before ++ take (k + 1) part =
-      append_assoc before (take k part) (x ∷ []) ∙ ap (λ l. before ++ l) (ap (λ v. take k part ++ v ∷ []) here ∙ sym (take_more part k x less)) in
-      subst (Gives post (before ++ take (k + 1) part)) (sym added) (subst (λ l. Gives post l (out ++ y ∷ [])) next (gives_next (before ++ take k part) out x y so_far gave))
-
-  pub behind_all : (before part : List T) (k : ℕ) (out : List U) → length part ≤ k → Gives post (before ++ take k part) out → Gives post (before ++ part) out
-  behind_all before part k out all = subst (λ l. Gives post (before ++ l) out) (take_all k part all)
-
-  -- no chunk yet
-  pub chunks_none : (size : ℕ) (items : List T) (out : List U) → out ≡ [] → Gives post (take (0 * size) items) out
-  chunks_none size items out is =
-      let z : 0 * size ≡ 0 = omega arith in
-      subst (λ k. Gives post (take k items) out) (sym z) (subst (Gives post []) (sym is) gives_none)
-
-  -- one chunk more
-  pub gives_chunk_more : (size c : ℕ) (items part : List T) (more : List U) → part ≡ chunk_of size items c → Gives post (take (c * size) items ++ part) more → Gives post (take ((c + 1) * size) items) more
-  gives_chunk_more size c items part more is all =
-      let step : c * size + size ≡ (c + 1) * size = sym (suc-mul c size) ∙ ap (λ (k : ℕ). k * size) (sym (add-one c)) in
-      subst (λ l. Gives post l more) (ap (λ l. take (c * size) items ++ l) is ∙ (sym (take-add (c * size) size items) ∙ ap (λ (k : ℕ). take k items) step)) all
-
-  -- the chunks are the whole list
-  pub gives_whole : (size c : ℕ) (items : List T) (out : List U) → 0 < size → c ≡ chunk_count size (length items) → Gives post (take (c * size) items) out → Gives post items out
-  gives_whole size c items out pos is = subst (λ l. Gives post l out) (whole_list size c items pos is)
 
   -- of chunk 0 the first value is known, of the others none
   pub known_first : (size : ℕ) (items : List T) (whole : List U) (c : ℕ) (part : List U) → 0 < size → part ≡ chunk_of size whole c → Gives post (take 1 items) (take 1 whole) → Gives post (take (1 - c) (chunk_of size items c)) (take (1 - c) part)

@@ -1,8 +1,8 @@
 -- Marked items and numbers, item by item and chunk by chunk.
-use Rattle.std.proofs.Common.{◌≡◌, ℕ, zero, suc, ◌+◌, ◌-◌, ◌*◌, ◌<◌, ◌≤◌, min, Bool, true, false, cond, All, List, [], ◌∷◌, ◌++◌, length, get_or, take, drop, map, filter, refl, sym, ap, ◌∙◌, subst, arith, add-one, suc-mul, take-add, append_assoc}
+use Rattle.std.proofs.Common.{◌≡◌, ℕ, zero, suc, ◌+◌, ◌-◌, ◌*◌, ◌<◌, min, Bool, true, false, cond, All, List, [], ◌∷◌, ◌++◌, length, get_or, take, drop, map, filter, refl, sym, ap, ◌∙◌, subst, arith, add-one, suc-mul, take-add, append_assoc}
 use Rattle.std.specs.List.{range_with_len, zip}
 use Rattle.std.proofs.lemmas.List.{take_more, take-map, drop-map, map_more, length-take, length-drop, length-map}
-use Rattle.std.proofs.lemmas.List.FromFn.{length-range_with_len, get_or-range_with_len}
+use Rattle.std.proofs.lemmas.List.FromFn.{length-range_with_len}
 use Rattle.chunk_seats.specs.Chunks.{chunk_of, chunk_count}
 use Rattle.par_passes.specs.Passes.{marked}
 use Rattle.par_passes.proofs.Together.{kept_parts, whole_list}
@@ -120,17 +120,3 @@ push_place {X} post g part from k x r old out more less here gave computes so_fa
     let level : length (map g (take k part)) ≡ length (range_with_len from k) = length-map (take k part) g ∙ (length-take k part ∙ ((omega arith) ∙ sym (length-range_with_len from k))) in
     push_marked old out more (range_with_len from k) (range_with_len from (k + 1)) (map g (take k part)) (map g (take (k + 1) part)) (from + k) r level
     (range_next from k) (map_more g part k x less ∙ ap (λ (m : Bool). map g (take k part) ++ m ∷ []) (sym there)) so_far added
-
--- what holds of all numbers in a range
-pub of_number : (P : ℕ → Type 0) (from to k : ℕ) → from ≤ k → k < to → All P (range_with_len from (to - from)) → P k
-of_number P from to k least less all =
-    let less' : k - from < to - from = omega arith in
-    let n : length (range_with_len from (to - from)) ≡ to - from = length-range_with_len from (to - from) in
-    let back : from + (k - from) ≡ k = omega arith in
-    subst P (get_or-range_with_len from (to - from) (k - from) 0 less' ∙ back) (all (k - from) 0 (omega arith))
-
--- a chunk of the numbers below n, by its ends
-pub numbers_chunk : (size n c from to : ℕ) → from ≡ min (c * size) n → to ≡ from + min (n - from) size → chunk_of size (range_with_len 0 n) c ≡ range_with_len from (to - from)
-numbers_chunk size n c from to begins ends =
-    let all : min size (n - c * size) ≡ to - from = omega arith in
-    range_chunk size n c from begins ∙ ap (range_with_len from) all

@@ -1,52 +1,14 @@
 //! A function of each item.
-ghost use Rattle.std.specs.Prelude.{◌≡◌, ◌<◌, ◌^◌, ◌++◌, List, length, All, map, IfOk};
+ghost use Rattle.std.specs.Prelude.{◌≡◌, ◌<◌, ◌^◌, length, All, map, IfOk};
 ghost use Rattle.par_passes.specs.Passes.{GaveAt, Gives};
 
-use crate::chunk::{chunk_slice, count_chunks};
 use crate::dealt::fill_by_number;
 use chunk_seats::{Gate, Plan};
 use scan_lookback::Lift;
 use std::alloc::{AllocError, Global};
 use std::thread::Threads;
 
-// What the function gives for each item, right behind what is in the list.
-fn map_onto<T: Copy, U: Copy, F: Fn(T) -> U>(
-    part: &[T],
-    f: &F,
-    out: &mut Vec<U>,
-) -> Result<(), AllocError>
-    requires callable { All (F.pre f.now) part.now }
-    ensures { IfOk result (λ _. (before : List T) → Gives (F.post f.now) before out.old.items → Gives (F.post f.now) (before ++ part.now) out.new.items) }
-{
-    for x in part {
-        out.push(f(*x))?;
-    }
-    Ok(())
-}
-
-// All that one worker does alone: the chunks in turn, each right behind the one before it.
-fn map_in_turn<T: Copy, U: Copy, F: Fn(T) -> U, G: Gate>(
-    alloc: Global,
-    plan: &Plan,
-    gate: &G,
-    items: &[T],
-    f: &F,
-) -> Result<Vec<U>, AllocError>
-    requires len { length items.now < 2 ^ 62 }
-    requires callable { All (F.pre f.now) items.now }
-    ensures { IfOk result (λ v. Gives (F.post f.now) items.now v.items) }
-{
-    let size = plan.chunk;
-    let mut out = Vec::with_capacity(alloc, items.len())?;
-    for c in 0..count_chunks(items.len(), size) as u64 {
-        gate.after_claim(0, Some(c));
-        map_onto(chunk_slice(items, size, c), f, &mut out)?;
-    }
-    gate.after_claim(0, None);
-    Ok(out)
-}
-
-// The same by workers: the item of a number is asked of the items.
+// What the function gives for each item, which is asked of the items by its number.
 fn map_by_number<
     T: Copy + Sync,
     U: Copy + Send + Sync,
@@ -80,9 +42,6 @@ pub(crate) fn map<
     ensures each { IfOk result (λ v. Gives (F.post f.now) items.now v.items) }
     ensures values { IfOk result (λ v. (g : T → U) → All (λ x. (r : U) → F.post f.now x r → r ≡ g x) items.now → v.items ≡ map g items.now) }
 {
-    if plan.workers == 1 || items.len() <= plan.chunk as usize {
-        return map_in_turn(alloc, plan, gate, items, f);
-    }
     map_by_number(rt, alloc, plan, gate, items, f)
 }
 

@@ -3,8 +3,5 @@ use Rattle.par_passes.proofs.Together.{if_ok}
 use Rattle.par_passes.proofs.each.map.Given as given
 use Rattle.par_passes.proofs.each.map.Goals as goal
 
-pub returns-then-plan-eq1-clause-values : goal.returns-then-plan-eq1-clause-values
-returns-then-plan-eq1-clause-values g c = if_ok c.map_in_turn.result c.map_in_turn.ensures (λ v all. gives_maps (given.F-post g c.args.f.now) c.args.items.now v.items all)
-
 pub returns-clause-values : goal.returns-clause-values
 returns-clause-values g c = if_ok c.map_by_number.result c.map_by_number.ensures (λ v all. gives_maps (given.F-post g c.args.f.now) c.args.items.now v.items all)
