@@ -151,130 +151,205 @@ fn store(hart: &mut Hart, regions: &mut [Region], size: u32, address: u32, value
 
 /// Does an instruction where it goes on, and else nothing. It is left to its step where it would end the
 /// run, or may be any.
-pub(crate) fn advance(packed: Packed, hart: &mut Hart, regions: &mut [Region]) -> bool
-    requires range { MatchOption (meaning packed) (Unit {0}) InRange }
+pub(crate) fn advance(packed: &Packed, hart: &mut Hart, regions: &mut [Region]) -> bool
+    requires range { MatchOption (meaning packed.now) (Unit {0}) InRange }
     requires ready { IsReady hart.old }
     requires apart { AreApart (stretches regions.old) }
-    ensures does { Does (decoded_step (meaning packed) (state hart.old regions.old)) (state hart.old regions.old) result (state hart.new regions.new) }
+    ensures does { Does (decoded_step (meaning packed.now) (state hart.old regions.old)) (state hart.old regions.old) result (state hart.new regions.new) }
     ensures ready { IsReady hart.new }
     ensures fixed { fixed regions.new ≡ fixed regions.old }
     ensures stretches { stretches regions.new ≡ stretches regions.old }
 {
-    let Packed {
-        operation,
-        rd,
-        rs1,
-        rs2,
-        immediate,
-    } = packed;
-    match operation {
-        Operation::Lui => write(hart, rd, on_top(immediate)),
-        Operation::Auipc => write(hart, rd, hart.pc.wrapping_add(on_top(immediate))),
-        Operation::Jal => jump(hart, rd, hart.pc.wrapping_add(immediate)),
-        Operation::Jalr => jump_register(hart, rd, rs1, immediate),
-        Operation::Beq => branch(hart, register(hart, rs1) == register(hart, rs2), immediate),
-        Operation::Bne => branch(hart, register(hart, rs1) != register(hart, rs2), immediate),
+    match packed.operation {
+        Operation::Lui => write(hart, packed.rd, on_top(packed.immediate)),
+        Operation::Auipc => write(
+            hart,
+            packed.rd,
+            hart.pc.wrapping_add(on_top(packed.immediate)),
+        ),
+        Operation::Jal => jump(hart, packed.rd, hart.pc.wrapping_add(packed.immediate)),
+        Operation::Jalr => jump_register(hart, packed.rd, packed.rs1, packed.immediate),
+        Operation::Beq => branch(
+            hart,
+            register(hart, packed.rs1) == register(hart, packed.rs2),
+            packed.immediate,
+        ),
+        Operation::Bne => branch(
+            hart,
+            register(hart, packed.rs1) != register(hart, packed.rs2),
+            packed.immediate,
+        ),
         Operation::Blt => branch(
             hart,
-            is_less_signed(register(hart, rs1), register(hart, rs2)),
-            immediate,
+            is_less_signed(register(hart, packed.rs1), register(hart, packed.rs2)),
+            packed.immediate,
         ),
         Operation::Bge => branch(
             hart,
-            !is_less_signed(register(hart, rs1), register(hart, rs2)),
-            immediate,
+            !is_less_signed(register(hart, packed.rs1), register(hart, packed.rs2)),
+            packed.immediate,
         ),
         Operation::Bltu => branch(
             hart,
-            is_less(register(hart, rs1), register(hart, rs2)),
-            immediate,
+            is_less(register(hart, packed.rs1), register(hart, packed.rs2)),
+            packed.immediate,
         ),
         Operation::Bgeu => branch(
             hart,
-            !is_less(register(hart, rs1), register(hart, rs2)),
-            immediate,
+            !is_less(register(hart, packed.rs1), register(hart, packed.rs2)),
+            packed.immediate,
         ),
-        Operation::Lw => load(hart, regions, rd, 4, address(hart, rs1, immediate)),
-        Operation::Lbu => load(hart, regions, rd, 1, address(hart, rs1, immediate)),
-        Operation::Lhu => load(hart, regions, rd, 2, address(hart, rs1, immediate)),
+        Operation::Lw => load(
+            hart,
+            regions,
+            packed.rd,
+            4,
+            address(hart, packed.rs1, packed.immediate),
+        ),
+        Operation::Lbu => load(
+            hart,
+            regions,
+            packed.rd,
+            1,
+            address(hart, packed.rs1, packed.immediate),
+        ),
+        Operation::Lhu => load(
+            hart,
+            regions,
+            packed.rd,
+            2,
+            address(hart, packed.rs1, packed.immediate),
+        ),
         Operation::Sb => store(
             hart,
             regions,
             1,
-            address(hart, rs1, immediate),
-            register(hart, rs2),
+            address(hart, packed.rs1, packed.immediate),
+            register(hart, packed.rs2),
         ),
         Operation::Sh => store(
             hart,
             regions,
             2,
-            address(hart, rs1, immediate),
-            register(hart, rs2),
+            address(hart, packed.rs1, packed.immediate),
+            register(hart, packed.rs2),
         ),
         Operation::Sw => store(
             hart,
             regions,
             4,
-            address(hart, rs1, immediate),
-            register(hart, rs2),
+            address(hart, packed.rs1, packed.immediate),
+            register(hart, packed.rs2),
         ),
-        Operation::Addi => write(hart, rd, register(hart, rs1).wrapping_add(immediate)),
-        Operation::Slti => write(hart, rd, less_signed(register(hart, rs1), immediate)),
-        Operation::Sltiu => write(hart, rd, less(register(hart, rs1), immediate)),
-        Operation::Xori => write(hart, rd, register(hart, rs1) ^ immediate),
-        Operation::Ori => write(hart, rd, register(hart, rs1) | immediate),
-        Operation::Andi => write(hart, rd, register(hart, rs1) & immediate),
-        Operation::Slli => write(hart, rd, shift_left(register(hart, rs1), immediate)),
-        Operation::Srli => write(hart, rd, shift_right(register(hart, rs1), immediate)),
-        Operation::Srai => write(hart, rd, shift_right_signed(register(hart, rs1), immediate)),
+        Operation::Addi => write(
+            hart,
+            packed.rd,
+            register(hart, packed.rs1).wrapping_add(packed.immediate),
+        ),
+        Operation::Slti => write(
+            hart,
+            packed.rd,
+            less_signed(register(hart, packed.rs1), packed.immediate),
+        ),
+        Operation::Sltiu => write(
+            hart,
+            packed.rd,
+            less(register(hart, packed.rs1), packed.immediate),
+        ),
+        Operation::Xori => write(
+            hart,
+            packed.rd,
+            register(hart, packed.rs1) ^ packed.immediate,
+        ),
+        Operation::Ori => write(
+            hart,
+            packed.rd,
+            register(hart, packed.rs1) | packed.immediate,
+        ),
+        Operation::Andi => write(
+            hart,
+            packed.rd,
+            register(hart, packed.rs1) & packed.immediate,
+        ),
+        Operation::Slli => write(
+            hart,
+            packed.rd,
+            shift_left(register(hart, packed.rs1), packed.immediate),
+        ),
+        Operation::Srli => write(
+            hart,
+            packed.rd,
+            shift_right(register(hart, packed.rs1), packed.immediate),
+        ),
+        Operation::Srai => write(
+            hart,
+            packed.rd,
+            shift_right_signed(register(hart, packed.rs1), packed.immediate),
+        ),
         Operation::Add => write(
             hart,
-            rd,
-            register(hart, rs1).wrapping_add(register(hart, rs2)),
+            packed.rd,
+            register(hart, packed.rs1).wrapping_add(register(hart, packed.rs2)),
         ),
         Operation::Sll => write(
             hart,
-            rd,
-            shift_left(register(hart, rs1), register(hart, rs2)),
+            packed.rd,
+            shift_left(register(hart, packed.rs1), register(hart, packed.rs2)),
         ),
         Operation::Slt => write(
             hart,
-            rd,
-            less_signed(register(hart, rs1), register(hart, rs2)),
+            packed.rd,
+            less_signed(register(hart, packed.rs1), register(hart, packed.rs2)),
         ),
-        Operation::Sltu => write(hart, rd, less(register(hart, rs1), register(hart, rs2))),
-        Operation::Xor => write(hart, rd, register(hart, rs1) ^ register(hart, rs2)),
+        Operation::Sltu => write(
+            hart,
+            packed.rd,
+            less(register(hart, packed.rs1), register(hart, packed.rs2)),
+        ),
+        Operation::Xor => write(
+            hart,
+            packed.rd,
+            register(hart, packed.rs1) ^ register(hart, packed.rs2),
+        ),
         Operation::Srl => write(
             hart,
-            rd,
-            shift_right(register(hart, rs1), register(hart, rs2)),
+            packed.rd,
+            shift_right(register(hart, packed.rs1), register(hart, packed.rs2)),
         ),
-        Operation::Or => write(hart, rd, register(hart, rs1) | register(hart, rs2)),
-        Operation::And => write(hart, rd, register(hart, rs1) & register(hart, rs2)),
+        Operation::Or => write(
+            hart,
+            packed.rd,
+            register(hart, packed.rs1) | register(hart, packed.rs2),
+        ),
+        Operation::And => write(
+            hart,
+            packed.rd,
+            register(hart, packed.rs1) & register(hart, packed.rs2),
+        ),
         Operation::Sub => write(
             hart,
-            rd,
-            register(hart, rs1).wrapping_sub(register(hart, rs2)),
+            packed.rd,
+            register(hart, packed.rs1).wrapping_sub(register(hart, packed.rs2)),
         ),
         Operation::Sra => write(
             hart,
-            rd,
-            shift_right_signed(register(hart, rs1), register(hart, rs2)),
+            packed.rd,
+            shift_right_signed(register(hart, packed.rs1), register(hart, packed.rs2)),
         ),
         Operation::Mul => write(
             hart,
-            rd,
-            register(hart, rs1).wrapping_mul(register(hart, rs2)),
+            packed.rd,
+            register(hart, packed.rs1).wrapping_mul(register(hart, packed.rs2)),
         ),
         Operation::Div => write(
             hart,
-            rd,
-            divide_signed(register(hart, rs1), register(hart, rs2)),
+            packed.rd,
+            divide_signed(register(hart, packed.rs1), register(hart, packed.rs2)),
         ),
         Operation::Rem => write(
             hart,
-            rd,
-            remainder_signed(register(hart, rs1), register(hart, rs2)),
+            packed.rd,
+            remainder_signed(register(hart, packed.rs1), register(hart, packed.rs2)),
         ),
         Operation::Other => false,
     }

@@ -92,7 +92,7 @@ impl Code {
             return false;
         }
         let index = ((hart.pc - self.start) / 4) as usize;
-        index < self.instructions.len() && advance(self.instructions[index], hart, regions)
+        index < self.instructions.len() && advance(&self.instructions[index], hart, regions)
     }
 
     /// Takes steps of these instructions as long as they go on, and at most so many. Answers how many are
