@@ -1,10 +1,11 @@
 // The machine of a file.
 
-ghost use Rattle.std.specs.Prelude.{◌≡◌, ◌%◌, Ok};
+ghost use Rattle.std.specs.Prelude.{◌≡◌, Ok};
 ghost use Rattle.rv_isa.specs.Effect.{state};
 ghost use Rattle.rv32_emul.specs.Machine.{run as runs, comes_to, outcome_of, started};
 ghost use Rattle.elf_file.specs.Reading.{Reads};
 ghost use Rattle.rv32_emul.specs.Told.{told};
+ghost use Rattle.rv32_emul.specs.Advance.{IsReady};
 
 use crate::memory::Regions;
 use elf_file::{ReadError, read};
@@ -32,16 +33,18 @@ pub enum Outcome {
     },
 }
 
-/// Takes steps until one ends the run, and at most so many. The answer is that of the last one, or Went
+/// Takes steps until one ends the run, and at most so many. Between runs of kept instructions there is
+/// one step of any kind. The answer is that of the last one, or Went
 /// where there was none.
 fn run_steps(hart: &mut Hart, memory: &mut Regions, steps: u64) -> Step
-    requires { hart.old.pc % 4 ≡ 0 }
+    requires { IsReady hart.old }
     ensures runs { runs steps (Ok (state hart.old memory.old)) ≡ comes_to result (state hart.new memory.new) }
-    ensures aligned { hart.new.pc % 4 ≡ 0 }
+    ensures ready { IsReady hart.new }
 {
-    for _ in 0..steps {
+    let mut left = memory.run(hart, steps);
+    while left > 0 {
         match step(hart, memory) {
-            Step::Went => {}
+            Step::Went => left = memory.run(hart, left - 1),
             ended => return ended,
         }
     }
@@ -57,15 +60,16 @@ pub struct Machine {
 }
 
 impl Model for Machine {
-    ghost use Rattle.std.specs.Prelude.{◌≡◌, ◌%◌, Result};
+    ghost use Rattle.std.specs.Prelude.{Result};
     ghost use Rattle.rv_isa.specs.Effect.{State, Ending, state};
     ghost use Rattle.rv32_emul.specs.Machine.{comes_to};
+    ghost use Rattle.rv32_emul.specs.Advance.{IsReady};
 
     ghost Value = { Result State Ending };
 
     ghost view = { λ m. comes_to m.last (state m.hart m.memory) };
 
-    ghost invariant = { λ m. m.hart.pc % 4 ≡ 0 };
+    ghost invariant = { λ m. IsReady m.hart };
 }
 
 impl Machine {
