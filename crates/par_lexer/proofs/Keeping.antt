@@ -9,14 +9,14 @@ use Rattle.par_lexer.specs.declared.pieces.Piece.{Piece}
 use Rattle.par_lexer.specs.declared.meanings.Meaning.{Meaning}
 use Rattle.par_lexer.specs.declared.meanings.Meaning.TheVariants.{Passed, Token, NoLexeme, TooLarge}
 use Rattle.par_lexer.specs.Meanings.{meaning_of}
-use Rattle.par_lexer.specs.PieceRows.{rows_from, columns}
+use Rattle.par_lexer.specs.PieceRows.{rows_from, told, columns}
 use Rattle.par_lexer.proofs.Faulting.{first_fault, meant, while_more, lexical_fault_is}
 
 not_none : (x : ℕ × ℕ) → Some x ≡ None → ⊥
 not_none x e = cc
 
 abbrev Kept : ℕ → ℕ → List (List ℕ) → Type 0
-Kept number at ps = first_fault at ps ≡ None → map row_of (tokens_from number at (take_while is_lexeme ps)) ≡ columns (rows_from at ps)
+Kept number at ps = first_fault at ps ≡ None → map row_of (tokens_from number at (take_while is_lexeme ps)) ≡ columns (told (rows_from at ps))
 
 abbrev fault_with : ℕ → List ℕ → List (List ℕ) → Meaning → Option (ℕ × ℕ)
 fault_with at p ps m = elim m [
@@ -48,12 +48,12 @@ kept (p ∷ ps) number at h = go (kept ps number (at + length p)) (kept ps (numb
     fault : (m : Meaning) → meaning_of p ≡ m → fault_with at p ps m ≡ None
     fault m e = sym (ap (fault_with at p ps) e) ∙ h
 
-    rows : (m : Meaning) → meaning_of p ≡ m → columns (row_with at (length p) m ∷ rows_from (at + length p) ps) ≡ columns (rows_from at (p ∷ ps))
-    rows m e = sym (ap (λ m. columns (row_with at (length p) m ∷ rows_from (at + length p) ps)) e)
+    rows : (m : Meaning) → meaning_of p ≡ m → columns (told (row_with at (length p) m ∷ rows_from (at + length p) ps)) ≡ columns (told (rows_from at (p ∷ ps)))
+    rows m e = sym (ap (λ m. columns (told (row_with at (length p) m ∷ rows_from (at + length p) ps))) e)
 
     go : Kept number (at + length p) ps → Kept (number + 1) (at + length p) ps
         → (l : Bool) → is_lexeme p ≡ l → (o : Option Terminal) → terminal_of p ≡ o → (g : Bool) → (is_number p && nat_lt 2147483647 (decimal_value p)) ≡ g
-        → map row_of (tokens_from number at (take_while is_lexeme (p ∷ ps))) ≡ columns (rows_from at (p ∷ ps))
+        → map row_of (tokens_from number at (take_while is_lexeme (p ∷ ps))) ≡ columns (told (rows_from at (p ∷ ps)))
     go same next false e o f g k = absurd (not_none (101, at) (fault NoLexeme (meaning false e o f g k)))
     go same next true e None f g k =
         let m : meaning_of p ≡ Passed = meaning true e None f g k in
@@ -67,5 +67,5 @@ kept (p ∷ ps) number at h = go (kept ps number (at + length p)) (kept ps (numb
         ∙ (ap (λ o. map row_of (token_step number at p ls o)) f
         ∙ (ap (λ (l : List TokenRow). record { terminal = t; start = at; length = length p } ∷ l) (next (fault (Token t) m)) ∙ rows (Token t) m))
 
-pub text_kept : (text : List ℕ) → lexical_fault text ≡ None → columns (rows_from 0 (pieces text)) ≡ map row_of (tokens text)
+pub text_kept : (text : List ℕ) → lexical_fault text ≡ None → columns (told (rows_from 0 (pieces text))) ≡ map row_of (tokens text)
 text_kept text h = sym (kept (pieces text) 0 0 (sym (lexical_fault_is text) ∙ h))

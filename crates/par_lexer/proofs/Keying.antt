@@ -1,5 +1,5 @@
 -- The least key is that of the first piece that has a fault.
-use Rattle.std.proofs.Common.{◌≡◌, ℕ, ◌+◌, ◌*◌, ◌%◌, ◌/◌, ◌<◌, ◌≤◌, arith, false, cond, List, [], ◌∷◌, Some, None, length, map, fold, refl, sym, ap, ◌∙◌, subst}
+use Rattle.std.proofs.Common.{◌≡◌, ℕ, ◌+◌, ◌*◌, ◌%◌, ◌/◌, ◌<◌, ◌≤◌, arith, Bool, true, false, cond, filter, List, [], ◌∷◌, Some, None, length, map, fold, refl, sym, ap, ◌∙◌, subst}
 use Rattle.std.specs.Prelude.{min, ◌==◌}
 use Rattle.std.specs.List.{AllByRecursion}
 use Rattle.std.proofs.lemmas.Bool.Decides.{nat_tests}
@@ -7,14 +7,15 @@ use Rattle.source_meaning.specs.Lexemes.{pieces, lexical_fault}
 use Rattle.par_lexer.specs.declared.meanings.Meaning.{Meaning}
 use Rattle.par_lexer.specs.declared.meanings.Meaning.TheVariants.{Passed, Token, NoLexeme, TooLarge}
 use Rattle.par_lexer.specs.Meanings.{meaning_of}
-use Rattle.par_lexer.specs.PieceRows.{rows_from, no_fault, fault_key, fault_of_key}
+use Rattle.par_lexer.specs.declared.pieces.Piece.{Piece}
+use Rattle.par_lexer.specs.PieceRows.{rows_from, is_told, told, no_fault, fault_key, fault_of_key}
 use Rattle.par_lexer.proofs.Laying.{ArePieces, are_pieces}
 use Rattle.par_lexer.proofs.Faulting.{first_fault, end_from, end_at_least, has_byte, end_of_text, lexical_fault_is}
 
 abbrev keys : ℕ → List (List ℕ) → List ℕ
 keys at ps = map fault_key (rows_from at ps)
 
-abbrev pub key_of : ℕ → Meaning → ℕ
+abbrev key_of : ℕ → Meaning → ℕ
 key_of at m = elim m [
   | Passed ↦ no_fault
   | Token t ↦ no_fault
@@ -147,15 +148,39 @@ key_small (p ∷ ps) at e = all (key_small ps (at + length p) e) (meaning_of p)
     all later NoLexeme = λ h. omega (arith, end_at_least (at + length p) ps)
     all later TooLarge = λ h. omega (arith, end_at_least (at + length p) ps)
 
+-- ---- the pieces that tell something
+
+-- where what is left out has the greatest key, the least one stays
+least_kept : {T : Type 0} (keep : T → Bool) (key : T → ℕ) (greatest : ℕ) → ((x : T) → keep x ≡ false → key x ≡ greatest) → (xs : List T) (a : ℕ) → a ≤ greatest
+    → fold min a (map key (filter keep xs)) ≡ fold min a (map key xs)
+least_kept keep key greatest others [] a h = refl
+least_kept keep key greatest others (x ∷ xs) a h = go (keep x) refl (least_kept keep key greatest others xs (min a (key x)) (omega arith))
+  where
+    go : (b : Bool) → keep x ≡ b → fold min (min a (key x)) (map key (filter keep xs)) ≡ fold min (min a (key x)) (map key xs) → fold min a (map key (cond b (x ∷ filter keep xs) (filter keep xs))) ≡ fold min (min a (key x)) (map key xs)
+    go true e is = is
+    go false e is =
+        let greatest_key : key x ≡ greatest = others x e in
+        let same : a ≡ min a (key x) = grind arith in
+        ap (λ (m : ℕ). fold min m (map key (filter keep xs))) same ∙ is
+
+no_key : (at : ℕ) (m : Meaning) → is_told m ≡ false → key_of at m ≡ no_fault
+no_key at Passed e = refl
+no_key at (Token t) e = refl
+no_key at NoLexeme e = let no : ⊥ = cc in absurd no
+no_key at TooLarge e = let no : ⊥ = cc in absurd no
+
+least_told : (ps : List Piece) → fold min no_fault (map fault_key (told ps)) ≡ fold min no_fault (map fault_key ps)
+least_told ps = least_kept (λ (p : Piece). is_told p.meaning) fault_key no_fault (λ p e. no_key p.start p.meaning e) ps no_fault (omega arith)
+
 -- ---- of a text
 
 in_text : (text : List ℕ) → length text ≤ 16777216 → end_from 0 (pieces text) ≤ 16777216
 in_text text h = let e : end_from 0 (pieces text) ≡ length text = end_of_text text in omega arith
 
-pub text_key : (text : List ℕ) → length text ≤ 16777216 → fault_of_key (fold min no_fault (map fault_key (rows_from 0 (pieces text)))) ≡ lexical_fault text
-text_key text h = key_is (pieces text) 0 (are_pieces text) (in_text text h) ∙ sym (lexical_fault_is text)
+pub text_key : (text : List ℕ) → length text ≤ 16777216 → fault_of_key (fold min no_fault (map fault_key (told (rows_from 0 (pieces text))))) ≡ lexical_fault text
+text_key text h = ap fault_of_key (least_told (rows_from 0 (pieces text))) ∙ (key_is (pieces text) 0 (are_pieces text) (in_text text h) ∙ sym (lexical_fault_is text))
 
-pub text_key_small : (text : List ℕ) → length text ≤ 16777216 → fold min no_fault (map fault_key (rows_from 0 (pieces text))) < no_fault → fold min no_fault (map fault_key (rows_from 0 (pieces text))) < 68719476736
+pub text_key_small : (text : List ℕ) → length text ≤ 16777216 → fold min no_fault (map fault_key (told (rows_from 0 (pieces text)))) < no_fault → fold min no_fault (map fault_key (told (rows_from 0 (pieces text)))) < 68719476736
 text_key_small text h =
-    let e : fold min no_fault (map fault_key (rows_from 0 (pieces text))) ≡ first_key 0 (pieces text) = least_is (pieces text) 0 (are_pieces text) (in_text text h) in
+    let e : fold min no_fault (map fault_key (told (rows_from 0 (pieces text)))) ≡ first_key 0 (pieces text) = least_told (rows_from 0 (pieces text)) ∙ least_is (pieces text) 0 (are_pieces text) (in_text text h) in
     subst Small (sym e) (key_small (pieces text) 0 (in_text text h))

@@ -1,20 +1,21 @@
--- A text that is cut into parts: the states before them, and what a run from each gives.
-use Rattle.std.proofs.Common.{◌≡◌, ℕ, zero, suc, ◌+◌, ◌*◌, ◌/◌, ◌%◌, ◌<◌, ◌≤◌, min, arith, Bool, false, List, [], ◌∷◌, ◌++◌, length, map, take, drop, get_or, refl, sym, ap, ◌∙◌, subst, add-one, suc-mul, mul-le-mul_right, div-add-mod', take-add}
+-- A text that is cut into chunks: how many there are, and the states before them.
+use Rattle.std.proofs.Common.{◌≡◌, ℕ, suc, ◌+◌, ◌-◌, ◌*◌, ◌/◌, ◌%◌, ◌<◌, ◌≤◌, min, arith, List, [], ◌∷◌, ◌++◌, length, map, fold, take, drop, get_or, slice_get, Some, refl, sym, ap, ◌∙◌, subst, add-one, suc-mul, mul-le-mul_right, div-add-mod', take-add}
 use Rattle.std.specs.Prelude.{slice_index}
 use mathlib.Core.Logic.{dite}
 use native.Mathlib.Decide.{dec_le}
 use Rattle.std.specs.List.{range_with_len}
-use Rattle.std.proofs.lemmas.List.{ext_get_or, get_or-take, get_or-drop}
-use Rattle.std.proofs.lemmas.List.FromFn.{get_or-map-range_with_len}
-use Rattle.word_monoid.proofs.Folds.{all_first, all_rest}
-use Rattle.chunk_seats.specs.Chunks.{chunk_of}
-use Rattle.state_monoid.specs.Automaton.{Automaton, IsAutomaton, step, run}
-use Rattle.state_monoid.specs.Image.{compose, image}
-use Rattle.state_monoid.specs.Words.{image_append, run_below, image_at}
+use Rattle.std.proofs.lemmas.List.FromFn.{length-map-range_with_len}
 use Rattle.std.proofs.lemmas.List.Elements.{All-take}
-use Rattle.par_lexer.specs.Reading.{is_begun, next_state, begins_from, begins}
+use Rattle.chunk_seats.specs.Chunks.{chunk_of}
+use Rattle.word_monoid.specs.Folds.{prefixes}
+use Rattle.state_monoid.specs.Automaton.{Automaton, IsAutomaton, run}
+use Rattle.state_monoid.specs.Image.{compose, image}
+use Rattle.state_monoid.specs.Numbering.{Numbering, function_of, byte_number, composition}
+use Rattle.state_monoid.specs.Words.{run_append, image_append, image_at}
 use Rattle.par_lexer.specs.Table.{lexer}
-use Rattle.par_lexer.proofs.Running.{Bytes, step_is, next_below, lexer_is_automaton}
+use Rattle.par_lexer.specs.Places.{state_before}
+use Rattle.par_lexer.specs.Chunks.{AreStarts}
+use Rattle.par_lexer.proofs.Running.{Bytes, lexer_is_automaton}
 
 -- ---- parts
 
@@ -52,59 +53,12 @@ pub start_of : (d : Automaton) → d ≡ lexer → (word before : List ℕ) (sta
 start_of d e word before state start is none led =
     led ∙ ((λ i. slice_index (is i) (none i)) ∙ (ap (λ (d : Automaton). slice_index (image d word) 0) e ∙ image_at lexer word 0 0 (omega arith)))
 
--- ---- runs
-
-dropped : (text : List ℕ) (s a : ℕ) → s < 16 → Bytes text → drop a (begins_from s text) ≡ begins_from (run lexer s (take a text)) (drop a text)
-dropped text s zero h w = refl
-dropped [] s (suc a) h w = refl
-dropped (c ∷ cs) s (suc a) h w =
-    let here : step lexer s c ≡ next_state s c = step_is s c h (all_first (λ b. b < 256) c cs w) in
-    dropped cs (next_state s c) a (next_below s c) (all_rest (λ b. b < 256) c cs w) ∙ ap (λ (t : ℕ). begins_from (run lexer t (take a cs)) (drop a cs)) (sym here)
-
-taken : (m s : ℕ) (text : List ℕ) → begins_from s (take m text) ≡ take m (begins_from s text)
-taken zero s text = refl
-taken (suc m) s [] = refl
-taken (suc m) s (c ∷ cs) = ap (λ (l : List Bool). is_begun (next_state s c) ∷ l) (taken m (next_state s c) cs)
-
--- a run over a part, from the state before it
-pub part_begins : (text part : List ℕ) (a m s : ℕ) (out : List Bool) → Bytes text → s ≡ run lexer 0 (take a text) → part ≡ take m (drop a text) → out ≡ begins_from s part → out ≡ take m (drop a (begins text))
-part_begins text part a m s out w state is made =
-    made ∙ ((λ i. begins_from (state i) (is i)) ∙ (taken m (run lexer 0 (take a text)) (drop a text) ∙ ap (take m) (sym (dropped text 0 a (omega arith) w))))
-
-length-begins : (s : ℕ) (text : List ℕ) → length (begins_from s text) ≡ length text
-length-begins s [] = refl
-length-begins s (c ∷ cs) = ap suc (length-begins (next_state s c) cs)
-
-module _ (text starts : List ℕ) (size from : ℕ) (whole : from % size ≡ 0) (inside : from < length text) (all : (c : ℕ) → c * size < length text → c < length starts) where
-  -- the part that begins at a place
-  part_at : from / size * size ≡ from
-  part_at =
-      let sum : from / size * size + from % size ≡ from = div-add-mod' from size in
-      let x : ℕ = from / size * size in let s : x + from % size ≡ from = sum in
-      omega arith
-
-  has_start : from / size < length starts
-  has_start = all (from / size) (subst (λ (k : ℕ). k < length text) (sym part_at) inside)
-
-  -- the state before it
-  module _ (each : starts ≡ map (λ c. run lexer 0 (take (c * size) text)) (range_with_len 0 (length starts))) where
-    pub start_is : get_or starts (from / size) 0 ≡ run lexer 0 (take from text)
-    start_is =
-        ap (λ (l : List ℕ). get_or l (from / size) 0) each
-        ∙ (get_or-map-range_with_len (λ (c : ℕ). run lexer 0 (take (c * size) text)) 0 (length starts) (from / size) (from / size) 0 has_start (omega arith)
-        ∙ ap (λ (k : ℕ). run lexer 0 (take k text)) part_at)
-
-    pub start_below : Bytes text → get_or starts (from / size) 0 < 16
-    start_below w = subst (λ (s : ℕ). s < 16) (sym start_is) (run_below lexer lexer_is_automaton 0 (take from text) (omega arith) (All-take (λ b. b < 256) from text w))
-
--- ---- the parts together
-
--- a mark that stands in a part
-pub in_part : (all : List Bool) (from n k i : ℕ) (piece : List Bool) (d x : Bool) → piece ≡ take n (drop from all) → k < n → from + k ≡ i → get_or piece k d ≡ x → x ≡ get_or all i d
-in_part all from n k i piece d x is less at there =
-    sym there ∙ (ap (λ (l : List Bool). get_or l k d) is ∙ (get_or-take n (drop from all) k d less ∙ (get_or-drop from all k d ∙ ap (λ (j : ℕ). get_or all j d) at)))
-
-pub all_begin : (text : List ℕ) (out : List Bool) → length out ≡ length text → ((i : ℕ) (d : Bool) → i < length text → get_or out i d ≡ get_or (begins text) i d) → out ≡ begins text
-all_begin text out wide at =
-    let same : length (begins text) ≡ length text = length-begins 0 text in
-    ext_get_or false out (begins text) (wide ∙ sym same) (λ i h. at i false (omega arith))
+-- the states before so many chunks, if these are all
+pub starts_made : (text : List ℕ) (size : ℕ) (starts : List ℕ) (count : ℕ) → starts ≡ map (λ c. state_before text (c * size)) (range_with_len 0 count) → ((c : ℕ) → c * size < length text → c < count) → AreStarts text size starts
+starts_made text size starts count made near =
+    let start : ℕ → ℕ = λ c. state_before text (c * size) in
+    let many : length starts ≡ count = ap length made ∙ length-map-range_with_len start 0 count in
+    record {
+      each = made ∙ ap (λ (n : ℕ). map start (range_with_len 0 n)) (sym many);
+      all = λ c inside. omega (arith, many, near c inside);
+    }

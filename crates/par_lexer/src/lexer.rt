@@ -4,7 +4,7 @@ ghost use Rattle.source_meaning.specs.Lexemes.{lexical_fault, tokens as tokens_o
 ghost use Rattle.ast_rows.specs.TokenRows.{row_of};
 ghost use Rattle.par_lexer.specs.declared.fault.LexFault.TheVariants.{Diagnostic as Told};
 
-use crate::cut::pieces;
+use crate::cut::told;
 use crate::fault::LexFault;
 use crate::faults::{Diagnostic, least_key, told_by};
 use crate::kept::tokens;
@@ -18,7 +18,7 @@ pub fn lex(crew: &impl Passes, text: &[u8]) -> Result<Tokens, LexFault>
     ensures ok { IfOk result (λ t. (lexical_fault text.now ≡ None) × (t ≡ map row_of (tokens_of text.now))) }
     ensures fault { (code at : ℕ) → result ≡ Err (Told code at) → lexical_fault text.now ≡ Some (code, at) }
 {
-    let pieces = pieces(crew, text)?;
+    let pieces = told(crew, text)?;
     let key = least_key(crew, &pieces)?;
     match told_by(key) {
         Some(Diagnostic { code, at }) => Err(LexFault::Diagnostic { code, at }),

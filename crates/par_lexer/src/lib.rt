@@ -2,8 +2,8 @@
 #![tactic(auto)]
 
 mod automaton;
-mod begun;
 mod bytes;
+mod chunks;
 mod cut;
 mod fault;
 mod faults;
@@ -13,6 +13,8 @@ mod lexer;
 mod marks;
 mod meanings;
 mod pieces;
+mod starts;
+mod stretch;
 mod vectors;
 
 pub use fault::LexFault;
