@@ -1,12 +1,12 @@
 -- Where the pieces of a text begin.
-use Rattle.std.proofs.Common.{◌≡◌, ℕ, zero, suc, ◌+◌, ◌-◌, ◌<◌, ◌≤◌, arith, Bool, true, false, cond, List, [], ◌∷◌, ◌++◌, length, take, drop, get_or, filter, refl, sym, ap, ◌∙◌, subst, append_assoc}
+use Rattle.std.proofs.Common.{◌≡◌, ℕ, zero, suc, ◌+◌, ◌-◌, ◌<◌, ◌≤◌, arith, Bool, true, false, cond, List, [], ◌∷◌, ◌++◌, length, take, drop, get_or, refl, sym, ap, ◌∙◌, subst, append_assoc}
 use mathlib.Core.Logic.{dite}
 use native.Mathlib.Decide.{dec_le}
 use Rattle.std.proofs.Math.Seq.{drop-cons}
 use Rattle.std.proofs.lemmas.List.{take_more, drop-drop, drop_all, length-drop, length-take-le, append-nil}
 use Rattle.std.proofs.lemmas.List.Elements.{All-take}
 use Rattle.source_meaning.specs.Lexemes.{is_lexeme, pieces_from, pieces}
-use Rattle.state_monoid.specs.Automaton.{run, step}
+use Rattle.state_monoid.specs.Automaton.{run}
 use Rattle.state_monoid.specs.Words.{run_append, run_below}
 use Rattle.par_lexer.specs.declared.pieces.Piece.{Piece}
 use Rattle.par_lexer.specs.declared.meanings.Meaning.{Meaning}

@@ -1,5 +1,5 @@
 -- The numbers of chunks' functions, and the states to which they lead.
-use Rattle.std.proofs.Common.{◌≡◌, ℕ, ◌+◌, ◌*◌, ◌<◌, arith, List, [], ◌∷◌, ◌++◌, length, map, fold, take, drop, get_or, slice_get, All, Some, refl, sym, ap, ◌∙◌, add-one, suc-mul, take-add}
+use Rattle.std.proofs.Common.{◌≡◌, ℕ, ◌+◌, ◌*◌, ◌<◌, arith, List, [], ◌∷◌, length, map, take, drop, get_or, slice_get, Some, refl, sym, ap, ◌∙◌, add-one, suc-mul, take-add}
 use Rattle.std.specs.Prelude.{slice_index, flat_map}
 use Rattle.std.specs.List.{range_with_len}
 use Rattle.std.proofs.Math.Seq.{take-length}

@@ -1,12 +1,9 @@
 //! The text is cut into its pieces.
 ghost use Rattle.std.specs.Prelude.{◌≡◌, ◌+◌, ◌*◌, ◌<◌, ◌≤◌, ◌++◌, ◌^◌, length, IfOk};
-ghost use Rattle.source_meaning.specs.Lexemes.{pieces};
-ghost use Rattle.par_lexer.specs.PieceRows.{rows_from, told as told_of};
 ghost use Rattle.par_lexer.specs.Places.{told_behind};
 ghost use Rattle.par_lexer.specs.Chunks.{AreStarts};
 ghost use Rattle.par_lexer.specs.Table.{lexer};
 
-use crate::automaton::{NOTHING, automaton};
 use crate::chunks::{chunk_end, chunk_start};
 use crate::pieces::Piece;
 use crate::starts::starts_by_numbers;
@@ -58,18 +55,9 @@ fn told_by_chunks(
     crew.by_chunks(starts.len(), text.len() / 2, &make)
 }
 
-// The same by one worker alone, in one run of the automaton.
-fn told_in_turn(alloc: Global, dfa: &Dfa, text: &[u8]) -> Result<Vec<Piece>, AllocError>
-    requires len { length text.now ≤ 2 ^ 24 }
-    requires automaton { dfa.now ≡ lexer }
-    ensures { IfOk result (λ v. v.items ≡ told_behind text.now 0) }
-{
-    told_between(alloc, dfa, text, 0, text.len(), u32::from(NOTHING))
-}
-
-// By the numbers of functions, which are first made, or where the automaton's functions are too many to be numbered, which they
-// aren't, by vectors of its states.
-fn told_by_crew(crew: &impl Passes, dfa: &Dfa, text: &[u8]) -> Result<Vec<Piece>, AllocError>
+// The pieces of a text, but for white space and comments. The states before the chunks come from the numbers of their functions or,
+// where the automaton's functions are too many to be numbered, which they aren't, from vectors of its states.
+pub(crate) fn told(crew: &impl Passes, dfa: &Dfa, text: &[u8]) -> Result<Vec<Piece>, AllocError>
     requires len { length text.now ≤ 2 ^ 24 }
     requires automaton { dfa.now ≡ lexer }
     ensures { IfOk result (λ v. v.items ≡ told_behind text.now 0) }
@@ -87,19 +75,5 @@ fn told_by_crew(crew: &impl Passes, dfa: &Dfa, text: &[u8]) -> Result<Vec<Piece>
             told_by_chunks(crew, dfa, text, size, &starts)
         }
         Err(BuildFault::NoMemory) => Err(AllocError),
-    }
-}
-
-// The pieces of a text, but for white space and comments.
-pub(crate) fn told(crew: &impl Passes, text: &[u8]) -> Result<Vec<Piece>, AllocError>
-    requires len { length text.now ≤ 2 ^ 24 }
-    ensures { IfOk result (λ v. v.items ≡ told_of (rows_from 0 (pieces text.now))) }
-{
-    let dfa = automaton(crew.alloc())?;
-    let plan = crew.plan();
-    if plan.workers == 1 || text.len() <= plan.chunk as usize {
-        told_in_turn(crew.alloc(), &dfa, text)
-    } else {
-        told_by_crew(crew, &dfa, text)
     }
 }

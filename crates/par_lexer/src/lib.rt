@@ -7,6 +7,7 @@ mod chunks;
 mod cut;
 mod fault;
 mod faults;
+mod in_turn;
 mod kept;
 mod laws;
 mod lexer;

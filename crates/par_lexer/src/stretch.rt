@@ -1,7 +1,6 @@
 //! A stretch of the text is run through by the automaton, and cut into its pieces.
-ghost use Rattle.std.specs.Prelude.{◌≡◌, ◌+◌, ◌<◌, ◌≤◌, ◌++◌, ◌^◌, [], ◌∷◌, length, drop, IfOk};
-ghost use Rattle.par_lexer.specs.PieceRows.{told};
-ghost use Rattle.par_lexer.specs.Places.{next_begin as next_begin_of, state_before, told_behind, wait};
+ghost use Rattle.std.specs.Prelude.{◌≡◌, ◌+◌, ◌<◌, ◌≤◌, ◌++◌, ◌^◌, ◌∷◌, Some, None, length, drop, IfOk};
+ghost use Rattle.par_lexer.specs.Places.{next_begin as next_begin_of, state_before, told_behind, wait, IsReached};
 ghost use Rattle.par_lexer.specs.Table.{lexer};
 
 use crate::automaton::{NOTHING, is_begun};
@@ -38,14 +37,25 @@ fn piece_end(dfa: &Dfa, text: &[u8], start: usize) -> usize
     next_begin(dfa, text, start + 1, state)
 }
 
-// One piece more, if it tells something.
-fn push_told(rows: &mut Vec<Piece>, piece: Piece) -> Result<(), AllocError>
-    ensures { IfOk result (λ _. rows.new.items ≡ rows.old.items ++ told (piece ∷ [])) }
+// The next piece of a stretch that tells something, from a place on that moves behind it.
+pub(crate) fn next_told(dfa: &Dfa, text: &[u8], to: usize, place: &mut usize) -> Option<Piece>
+    requires len { length text.now ≤ 2 ^ 24 }
+    requires automaton { dfa.now ≡ lexer }
+    requires to { to ≤ length text.now }
+    requires reached { IsReached text.now to place.old }
+    ensures reached { IsReached text.now to place.new }
+    ensures some { (piece : Piece) → result ≡ Some piece → told_behind text.now place.old ≡ piece ∷ told_behind text.now place.new }
+    ensures none { result ≡ None → told_behind text.now place.old ≡ told_behind text.now to }
 {
-    if is_told(piece.meaning) {
-        rows.push(piece)?;
+    while *place < to {
+        let end = piece_end(dfa, text, *place);
+        let piece = piece_between(text, *place, end);
+        *place = end;
+        if is_told(piece.meaning) {
+            return Some(piece);
+        }
     }
-    Ok(())
+    None
 }
 
 // The pieces that begin in a stretch of the text, from the state before it. The last of them may end behind the stretch.
@@ -64,11 +74,9 @@ pub(crate) fn told_between(
     ensures { IfOk result (λ v. v.items ++ told_behind text.now to ≡ told_behind text.now from) }
 {
     let mut rows = Vec::new(alloc);
-    let mut start = next_begin(dfa, &text[..to], from, state);
-    while start < to {
-        let end = piece_end(dfa, text, start);
-        push_told(&mut rows, piece_between(text, start, end))?;
-        start = end;
+    let mut place = next_begin(dfa, &text[..to], from, state);
+    while let Some(piece) = next_told(dfa, text, to, &mut place) {
+        rows.push(piece)?;
     }
     Ok(rows)
 }

@@ -278,8 +278,8 @@ fn two_workers_meet_in_every_pass(rt: HostRuntime) -> Result<(), Fail> {
         return Err("a fault".into());
     };
     assert_eq!(rt; tokens.len(), 2);
-    // the chunks' functions, their pieces, the pieces' keys, the least of these, and the tokens' three columns
-    assert_eq!(rt; gate.met.load(Ordering::SeqCst), 7);
+    // the chunks' functions, their pieces, the faulty ones, and the tokens' three columns
+    assert_eq!(rt; gate.met.load(Ordering::SeqCst), 6);
     assert_eq!(rt; gate.alone.load(Ordering::SeqCst), 0);
     Ok(())
 }

@@ -1,7 +1,6 @@
-use Rattle.std.proofs.Common.{◌≡◌, ◌*◌, ◌<◌, ap, ◌∙◌, length, arith}
+use Rattle.std.proofs.Common.{◌*◌, ap, ◌∙◌, arith}
 use Rattle.scan_lookback.proofs.Assembling.{one_value_more}
 use Rattle.par_lexer.specs.Places.{state_before}
-use Rattle.par_lexer.specs.Chunks.{chunk_number}
 use Rattle.par_lexer.proofs.Running.{bytes_of}
 use Rattle.par_lexer.proofs.Numbered.{number_at, numbers_many, chunk_below, start_next}
 use Rattle.par_lexer.proofs.Parting.{starts_made}

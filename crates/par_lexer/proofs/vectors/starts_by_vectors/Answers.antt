@@ -1,6 +1,4 @@
-use Rattle.std.proofs.Common.{get_or, ℕ, ◌*◌, length, take, map, ap, sym, ◌∙◌, arith}
-use Rattle.std.specs.List.{range_with_len}
-use Rattle.std.proofs.lemmas.List.FromFn.{length-map-range_with_len}
+use Rattle.std.proofs.Common.{get_or, ◌*◌, take, ap, ◌∙◌, arith}
 use Rattle.scan_lookback.proofs.Assembling.{one_value_more}
 use Rattle.par_lexer.specs.Places.{state_before}
 use Rattle.par_lexer.proofs.Running.{bytes_of}
