@@ -1,50 +1,79 @@
 //! The text is cut into its pieces.
-ghost use Rattle.std.specs.Prelude.{◌≡◌, ◌+◌, ◌-◌, ◌<◌, ◌≤◌, ◌^◌, length, map, IfOk, suc};
-ghost use Rattle.std.specs.List.{range_with_len};
-ghost use Rattle.source_meaning.specs.Lexemes.{pieces as pieces_of};
-ghost use Rattle.par_lexer.specs.Spans.{boundaries as boundaries_of, neighbours};
-ghost use Rattle.par_lexer.specs.PieceRows.{meaning_at, rows_from};
+ghost use Rattle.std.specs.Prelude.{◌≡◌, ◌+◌, ◌*◌, ◌<◌, ◌≤◌, ◌++◌, ◌^◌, length, IfOk};
+ghost use Rattle.par_lexer.specs.Places.{told_behind};
+ghost use Rattle.par_lexer.specs.Chunks.{AreStarts};
+ghost use Rattle.par_lexer.specs.Table.{lexer};
 
-use crate::begun::begins;
-use crate::meanings::Meaning;
-use crate::pieces::{Pieces, meaning_between};
+use crate::chunks::{chunk_end, chunk_start};
+use crate::pieces::Piece;
+use crate::starts::starts_by_numbers;
+use crate::stretch::told_between;
+use crate::vectors::{part_size, starts_by_vectors};
 use par_passes::Passes;
-use std::alloc::AllocError;
+use state_monoid::{BuildFault, Compositions, Dfa};
+use std::alloc::{AllocError, Global};
 
-// The places where pieces begin, and the end of the text.
-fn boundaries(crew: &impl Passes, text: &[u8]) -> Result<Vec<u32>, AllocError>
-    requires len { length text.now ≤ 2 ^ 24 }
-    ensures { IfOk result (λ v. v.items ≡ boundaries_of 0 (pieces_of text.now)) }
-{
-    let mut bounds = begins(crew, text)?;
-    bounds.push(text.len() as u32)?;
-    Ok(bounds)
-}
-
-// What the piece between each place and the next one is.
-fn meanings(
-    crew: &impl Passes,
+// The pieces that begin in a chunk.
+fn told_in_chunk(
+    alloc: Global,
+    dfa: &Dfa,
     text: &[u8],
-    bounds: &[u32],
-    count: u32,
-) -> Result<Vec<Meaning>, AllocError>
-    requires bounds { length bounds.now ≡ count + 1 }
-    ensures { IfOk result (λ v. v.items ≡ map (neighbours (meaning_at text.now) bounds.now) (range_with_len 0 count)) }
+    size: usize,
+    starts: &[u32],
+    c: u64,
+) -> Result<Vec<Piece>, AllocError>
+    requires len { length text.now ≤ 2 ^ 24 }
+    requires automaton { dfa.now ≡ lexer }
+    requires starts { AreStarts text.now size starts.now }
+    requires number { c < length starts.now }
+    ensures { IfOk result (λ v. v.items ++ told_behind text.now (c * size + size) ≡ told_behind text.now (c * size)) }
 {
-    let at = |k: u32| -> Meaning
-        requires { k + 1 < length bounds.now }
-        ensures { result ≡ neighbours (meaning_at text.entry.now) bounds.entry.now k }
-    { meaning_between(text, bounds[k as usize], bounds[k as usize + 1]) };
-    crew.tabulate(count, &at)
+    let from = chunk_start(text, size, c);
+    let to = chunk_end(text, size, from);
+    told_between(alloc, dfa, text, from, to, starts[c as usize])
 }
 
-// The pieces of a text.
-pub(crate) fn pieces(crew: &impl Passes, text: &[u8]) -> Result<Pieces, AllocError>
+// By the whole crew: the pieces of all chunks, from the states before them.
+fn told_by_chunks(
+    crew: &impl Passes,
+    dfa: &Dfa,
+    text: &[u8],
+    size: usize,
+    starts: &[u32],
+) -> Result<Vec<Piece>, AllocError>
     requires len { length text.now ≤ 2 ^ 24 }
-    ensures { IfOk result (λ p. p ≡ rows_from 0 (pieces_of text.now)) }
+    requires automaton { dfa.now ≡ lexer }
+    requires starts { AreStarts text.now size starts.now }
+    requires count { length starts.now < 2 ^ 62 }
+    ensures { IfOk result (λ v. v.items ≡ told_behind text.now 0) }
 {
-    let bounds = boundaries(crew, text)?;
-    let count = bounds.len() as u32 - 1;
-    let meanings = meanings(crew, text, bounds.as_slice(), count)?;
-    Ok(Pieces::new(bounds, meanings))
+    let alloc = crew.alloc();
+    let make = |c: u64| -> Result<Vec<Piece>, AllocError>
+        requires { (length text.now ≤ 2 ^ 24) × (dfa.now ≡ lexer) × AreStarts text.now size starts.now × (c < length starts.now) }
+        ensures { IfOk result (λ v. v.items ++ told_behind text.entry.now (c * size + size) ≡ told_behind text.entry.now (c * size)) }
+    { told_in_chunk(alloc, dfa, text, size, starts, c) };
+    crew.by_chunks(starts.len(), text.len() / 2, &make)
+}
+
+// The pieces of a text, but for white space and comments. The states before the chunks come from the numbers of their functions or,
+// where the automaton's functions are too many to be numbered, which they aren't, from vectors of its states.
+pub(crate) fn told(crew: &impl Passes, dfa: &Dfa, text: &[u8]) -> Result<Vec<Piece>, AllocError>
+    requires len { length text.now ≤ 2 ^ 24 }
+    requires automaton { dfa.now ≡ lexer }
+    ensures { IfOk result (λ v. v.items ≡ told_behind text.now 0) }
+{
+    let plan = crew.plan();
+    match Compositions::build(crew.alloc(), dfa) {
+        Ok(compositions) => {
+            let size = plan.chunk as usize;
+            let starts = starts_by_numbers(crew, &compositions, text, size)?;
+            told_by_chunks(crew, dfa, text, size, &starts)
+        }
+        Err(BuildFault::TooMany { reached: _ }) => {
+            let size = part_size(&plan, text.len());
+            let starts = starts_by_vectors(crew, dfa, text, size)?;
+            told_by_chunks(crew, dfa, text, size, &starts)
+        }
+        Err(BuildFault::NoMemory) => Err(AllocError),
+    }
 }

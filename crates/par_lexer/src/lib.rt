@@ -2,17 +2,20 @@
 #![tactic(auto)]
 
 mod automaton;
-mod begun;
 mod bytes;
+mod chunks;
 mod cut;
 mod fault;
 mod faults;
+mod in_turn;
 mod kept;
 mod laws;
 mod lexer;
 mod marks;
 mod meanings;
 mod pieces;
+mod starts;
+mod stretch;
 mod vectors;
 
 pub use fault::LexFault;

@@ -3,7 +3,8 @@ ghost use Rattle.std.specs.Prelude.{◌≤◌, ◌^◌, length};
 
 use super::*;
 use crate::automaton::automaton;
-use crate::begun::{begins, begins_by_vectors};
+use crate::starts::starts_by_numbers;
+use crate::vectors::starts_by_vectors;
 use chunk_seats::{Gate, OpenGate, Plan};
 use par_passes::Workers;
 use source_meaning::Terminal;
@@ -192,23 +193,39 @@ fn bytes_of_no_lexeme(rt: HostRuntime) -> Result<(), Fail> {
     Ok(())
 }
 
+// The states before chunks of each size.
 #[test]
 fn vectors_say_the_same(rt: HostRuntime) -> Result<(), Fail> {
     let alloc = rt.alloc();
     let dfa = automaton(alloc)?;
-    let four = crew(&rt, alloc, 4, 7)?;
-    let by_functions = begins(&four, EVERY_CLASS)?;
-    for (workers, chunk) in PLANS {
-        let crew = crew(&rt, alloc, workers, chunk)?;
-        let by_vectors = begins_by_vectors(&crew, &dfa, EVERY_CLASS)?;
-        assert!(rt; by_vectors == by_functions);
-    }
     let Ok(compositions) = Compositions::build(alloc, &dfa) else {
         return Err("too many".into());
     };
+    let crew = crew(&rt, alloc, 4, 2)?;
+    for size in 1..37 {
+        let by_numbers = starts_by_numbers(&crew, &compositions, EVERY_CLASS, size)?;
+        let by_vectors = starts_by_vectors(&crew, &dfa, EVERY_CLASS, size)?;
+        assert!(rt; by_vectors == by_numbers);
+    }
     let functions = compositions.count();
     println!(rt; "functions: {functions}")?;
     assert_eq!(rt; functions, 65);
+    Ok(())
+}
+
+// A comment and a name over three chunks and more, and what stands behind them in the last one.
+#[test]
+fn pieces_over_several_chunks(rt: HostRuntime) -> Result<(), Fail> {
+    let text = b"a // one two three\nfour_and_five 6";
+    let expected = [
+        (Terminal::Ident, 0, 1),
+        (Terminal::Ident, 19, 13),
+        (Terminal::Digits, 33, 1),
+    ];
+    for (workers, chunk) in [(2, 3), (3, 4), (4, 5), (7, 1), (2, 17)] {
+        let crew = crew(&rt, rt.alloc(), workers, chunk)?;
+        tokens_are(&crew, text, &expected)?;
+    }
     Ok(())
 }
 
@@ -261,8 +278,8 @@ fn two_workers_meet_in_every_pass(rt: HostRuntime) -> Result<(), Fail> {
         return Err("a fault".into());
     };
     assert_eq!(rt; tokens.len(), 2);
-    // a scan, the pieces' places and meanings, the faulty ones, the tokens' numbers and their three columns
-    assert_eq!(rt; gate.met.load(Ordering::SeqCst), 8);
+    // the chunks' functions, their pieces, the faulty ones, and the tokens' three columns
+    assert_eq!(rt; gate.met.load(Ordering::SeqCst), 6);
     assert_eq!(rt; gate.alone.load(Ordering::SeqCst), 0);
     Ok(())
 }
