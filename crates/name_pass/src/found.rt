@@ -2,54 +2,25 @@
 ghost use Rattle.std.specs.Prelude.{◌≡◌, ◌<◌, ◌^◌, length, map, min, fold, IfOk};
 ghost use Rattle.std.specs.List.{range_with_len};
 ghost use Rattle.ast_rows.specs.NameRows.{row_word};
-ghost use Rattle.name_pass.specs.Ends.{end_of as end_of_key};
 ghost use Rattle.name_pass.specs.RowNames.{found as found_in, no_fault};
 ghost use Rattle.name_pass.specs.Found.{AreRows, found_column, meant_column, fault_at as fault_in, meant_at as meant_in};
 ghost use Rattle.name_pass.specs.Scopes.{AreScopes};
 
-use crate::behind::{behind, minima_of_ends};
 use crate::fault_keys::fault_at;
 use crate::meaning::{meant_at, word_of};
 use crate::scopes::Scopes;
 use ast_rows::Rows;
-use near_smaller::Minima;
 use par_passes::Passes;
 use std::alloc::AllocError;
 
 // The row that is found for the name of a row; the greatest number where there is none.
-fn found_word(scopes: &Scopes<'_>, ends: &Minima, row: u32) -> u32
+fn found_word(scopes: &Scopes<'_>, row: u32) -> u32
     requires keys { AreScopes scopes.now }
     requires row { row < length scopes.now.rows.now }
     requires small { row < 4294967295 }
-    requires ends { ends.now ≡ map (end_of_key scopes.now.rows.now) scopes.now.declarations.now }
     ensures { result ≡ row_word (found_in scopes.now.text.now scopes.now.tokens.now scopes.now.rows.now row) }
 {
-    if scopes.names_variable(row) {
-        word_of(scopes.found(row, behind(scopes, ends, row)))
-    } else {
-        word_of(scopes.found(row, None))
-    }
-}
-
-// The row that is found for the name of each row.
-fn found_by_ends(
-    crew: &impl Passes,
-    scopes: &Scopes<'_>,
-    ends: &Minima,
-) -> Result<Vec<u32>, AllocError>
-    requires few { length scopes.now.rows.now < 2 ^ 30 }
-    requires keys { AreScopes scopes.now }
-    requires ends { ends.now ≡ map (end_of_key scopes.now.rows.now) scopes.now.declarations.now }
-    ensures { IfOk result (λ v. v.items ≡ found_column scopes.now.text.now scopes.now.tokens.now scopes.now.rows.now) }
-{
-    let of_row = |row: u32| -> u32
-        requires keys { AreScopes scopes.now }
-        requires row { row < length scopes.now.rows.now }
-        requires small { row < 4294967295 }
-        requires ends { ends.now ≡ map (end_of_key scopes.now.rows.now) scopes.now.declarations.now }
-        ensures { result ≡ row_word (found_in scopes.entry.now.text.now scopes.entry.now.tokens.now scopes.entry.now.rows.now row) }
-    { found_word(scopes, ends, row) };
-    crew.tabulate(scopes.rows.len() as u32, &of_row)
+    word_of(scopes.found(row))
 }
 
 /// The row that is found for the name of each row.
@@ -58,8 +29,13 @@ pub(crate) fn found(crew: &impl Passes, scopes: &Scopes<'_>) -> Result<Vec<u32>,
     requires keys { AreScopes scopes.now }
     ensures { IfOk result (λ v. v.items ≡ found_column scopes.now.text.now scopes.now.tokens.now scopes.now.rows.now) }
 {
-    let ends = minima_of_ends(crew, scopes.rows, scopes.declarations)?;
-    found_by_ends(crew, scopes, &ends)
+    let of_row = |row: u32| -> u32
+        requires keys { AreScopes scopes.now }
+        requires row { row < length scopes.now.rows.now }
+        requires small { row < 4294967295 }
+        ensures { result ≡ row_word (found_in scopes.entry.now.text.now scopes.entry.now.tokens.now scopes.entry.now.rows.now row) }
+    { found_word(scopes, row) };
+    crew.tabulate(scopes.rows.len() as u32, &of_row)
 }
 
 /// The row that declares what each row means.
