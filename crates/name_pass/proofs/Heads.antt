@@ -24,7 +24,7 @@ none_behind zero (suc n) xs l = absurd (omega arith)
 none_behind (suc m) (suc n) [] l = refl
 none_behind (suc m) (suc n) (x ∷ xs) l = none_behind m n xs (omega arith)
 
-pub no_tail : (k : NameKey) → k.length ≤ 8 → key_tail k ≡ []
+no_tail : (k : NameKey) → k.length ≤ 8 → key_tail k ≡ []
 no_tail k l = none_behind 8 k.length (drop k.start k.text.now) l
 
 abbrev pub Small : List ℕ → Type 0
@@ -143,6 +143,14 @@ order (suc n) h (x ∷ xs) (y ∷ ys) s t = go (nat_cmp x y) refl (order n (256 
         ∙ ap (λ (g : ℕ). told (with_digits xs (256 * h + x) 0 n) g (drop n xs) (drop n ys) (suc (length xs)) (suc (length ys))) (behind n (256 * h + y) 0 y ys ∙ ap (λ (z : ℕ). with_digits ys (256 * h + z) 0 n) same)
         ∙ ap (λ (o : Ordering). ordering_then (nat_cmp (with_digits xs (256 * h + x) 0 n) (with_digits ys (256 * h + x) 0 n)) (ordering_then (slice_cmp nat_cmp (drop n xs) (drop n ys)) o)) (next_length (length xs) (length ys))
         ∙ r
+
+-- short names with one head and one length are one
+pub heads_alike : (k l : NameKey) → k.length ≡ l.length → k.length ≤ 8 → k.head ≡ l.head → name_cmp k l ≡ Equal
+heads_alike k l e short h =
+    let other : l.length ≤ 8 = omega arith in
+    told_equal k.head l.head (key_tail k) (key_tail l) k.length l.length h
+    ∙ (λ i. ordering_then (slice_cmp nat_cmp (no_tail k short i) (no_tail l other i)) (nat_cmp k.length l.length))
+    ∙ is_equal k.length l.length e
 
 -- keys are in the order of their names
 pub names_told : (k l : NameKey) → IsHeaded k → IsHeaded l → name_cmp k l ≡ slice_cmp nat_cmp (key_bytes k) (key_bytes l)
