@@ -7,6 +7,7 @@ use Rattle.std.specs.declared.cmp.Ordering.TheVariants.{Less, Equal, Greater}
 use Rattle.std.specs.Ordering.{nat_cmp, ordering_then, is_eq, is_lt}
 use Rattle.std.specs.Cmp.{nat_cmp_is}
 use Rattle.std.specs.Cmp.Lexicographic.{slice_cmp}
+use Rattle.std.specs.List.{AllWithin}
 use Rattle.std.specs.List.Sorted.{IsPartitionPoint, IsPartitionedBy}
 use Rattle.std.proofs.lemmas.Bool.{cases_lt}
 use Rattle.std.proofs.lemmas.List.{length-take, take_min}
@@ -15,7 +16,13 @@ use Rattle.std.proofs.lemmas.Map.Text.{is_eq-slice_cmp}
 use Rattle.name_pass.specs.declared.key.NameKey.{NameKey}
 use Rattle.name_pass.specs.Spelling.{part_of}
 use Rattle.name_pass.specs.Keys.{key_bytes, key_tail, key_at, with_digits, head_of, name_cmp, short_cmp, key_cmp, is_before, IsHeaded}
-use Rattle.name_pass.proofs.Ordered.{same_names}
+use Rattle.row_rules.proofs.Shown.{false_if}
+use Rattle.name_pass.proofs.Ordered.{same_names, keys_parted}
+
+pub any_default : {T : Type 0} (xs : List T) (k : ℕ) (d e : T) → k < length xs → slice_index_or xs k d ≡ slice_index_or xs k e
+any_default [] k d e l = absurd (omega arith)
+any_default (x ∷ xs) zero d e l = refl
+any_default (x ∷ xs) (suc k) d e l = any_default xs k d e (omega arith)
 
 none_behind : (m n : ℕ) (xs : List ℕ) → n ≤ m → drop m (take n xs) ≡ []
 none_behind zero zero xs l = refl
@@ -180,6 +187,18 @@ module _ (keys : List NameKey) (name : NameKey) (all : All IsHeaded keys) (one :
     λ r d ge l. sym (before_told (slice_index_or keys r d) name (all r d (omega arith)) one) ∙ h.0 r d ge l,
     λ r d ge l. sym (before_told (slice_index_or keys r d) name (all r d l) one) ∙ h.1 r d ge l,
   )
+
+  module _ (up : IsSorted key_cmp keys) (d : NameKey) (p : ℕ) (l : p < length keys) where
+    -- the keys up to one that stands before a name
+    pub low_told : is_lt (short_cmp (slice_index_or keys p d) name) ≡ true → AllWithin (λ y. is_before (key_bytes name) name.row y ≡ true) keys 0 (p + 1)
+    low_told h r d' ge lt = keys_parted keys up (key_bytes name) name.row r p d' (omega arith) l (sym (before_told (slice_index_or keys p d') name (all p d' l) one) ∙ ap (λ (y : NameKey). is_lt (short_cmp y name)) (any_default keys p d' d l) ∙ h)
+
+    -- the keys from one on that doesn't
+    pub high_told : is_lt (short_cmp (slice_index_or keys p d) name) ≡ false → AllWithin (λ y. is_before (key_bytes name) name.row y ≡ false) keys p (length keys)
+    high_told h r d' ge lt = false_if (is_before (key_bytes name) name.row (slice_index_or keys r d')) (λ e.
+        let no : is_before (key_bytes name) name.row (slice_index_or keys p d) ≡ true = keys_parted keys up (key_bytes name) name.row p r d ge lt (ap (is_before (key_bytes name) name.row) (any_default keys r d d' lt) ∙ e) in
+        let yes : is_before (key_bytes name) name.row (slice_index_or keys p d) ≡ false = sym (before_told (slice_index_or keys p d) name (all p d l) one) ∙ h in
+        absurd (let c : true ≡ false = sym no ∙ yes in cc))
 
 -- ---- the keys that are made
 
