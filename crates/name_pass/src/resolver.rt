@@ -9,6 +9,7 @@ ghost use Rattle.name_pass.specs.Spelling.{spelled};
 ghost use Rattle.name_pass.specs.declared.fault.NameFault.TheVariants.{Diagnostic as Told};
 
 use crate::answer::answer;
+use crate::behind::minima_of_ends;
 use crate::counts::numbers;
 use crate::fault::NameFault;
 use crate::fault_keys::main_key;
@@ -34,12 +35,14 @@ pub fn resolve(
 {
     let declarations = declarations(crew, text, tokens, rows)?;
     let functions = functions(crew, text, tokens, rows)?;
+    let ends = minima_of_ends(crew, rows, &declarations)?;
     let scopes = Scopes {
         text,
         tokens,
         rows,
         declarations: &declarations,
         functions: &functions,
+        ends: &ends,
     };
     let words = found(crew, &scopes)?;
     let meant = meant(crew, rows, &words)?;

@@ -5,7 +5,7 @@ ghost use Rattle.name_pass.specs.Keys.{AreKeys};
 ghost use Rattle.name_pass.specs.RowNames.{declares_variable as is_declaring, is_function_kind};
 ghost use Rattle.name_pass.specs.RowKeys.{key_of as key_of_row, rows_where};
 
-use crate::key::NameKey;
+use crate::key::{NameKey, bytes_fit};
 use crate::row_keys::{declares_variable, is_function, key_of};
 use ast_rows::{Rows, Tokens};
 use par_passes::Passes;
@@ -59,6 +59,7 @@ fn in_order<'a>(
     requires within { All (λ r. r < length rows.now) numbers.now }
     ensures { IfOk result (λ v. (keep : AKind → Bool) → numbers.now ≡ rows_where keep (map (λ r. r.kind) rows.now) → AreKeys keep text.now tokens.now rows.now v.items) }
 {
+    bytes_fit(text);
     let keys = keys(crew, text, tokens, rows, numbers)?;
     crew.sorted(&keys)
 }

@@ -14,11 +14,11 @@ use Rattle.name_pass.proofs.resolver.resolve.Goals as goal
 
 pub meant-requires-clause-words : goal.meant-requires-clause-words
 meant-requires-clause-words g c κs within =
-    words_are_rows c.args.text.now c.args.tokens.now c.args.rows.now c.deref-3.result.now (c.deref-3.ensures.value ∙ c.in_ok-words.ensures) c.requires.rows
+    words_are_rows c.args.text.now c.args.tokens.now c.args.rows.now c.deref-4.result.now (c.deref-4.ensures.value ∙ c.in_ok-words.ensures) c.requires.rows
 
 pub least_key-requires-clause-words : goal.least_key-requires-clause-words
 least_key-requires-clause-words g c κs within =
-    words_are_rows c.args.text.now c.args.tokens.now c.args.rows.now c.deref-4.result.now (c.deref-4.ensures.value ∙ c.in_ok-words.ensures) c.requires.rows
+    words_are_rows c.args.text.now c.args.tokens.now c.args.rows.now c.deref-5.result.now (c.deref-5.ensures.value ∙ c.in_ok-words.ensures) c.requires.rows
 
 pub returns : goal.returns
 returns g c =
@@ -29,9 +29,9 @@ returns g c =
     let meant = c.in_ok-meant.meant.items in
     let numbers = c.in_ok-numbers.numbers.items in
     let main = c.main-main.result in
-    let meant_is : meant ≡ meant_column rows words = c.in_ok-meant.ensures ∙ ap (meant_column rows) c.deref-3.ensures.value in
+    let meant_is : meant ≡ meant_column rows words = c.in_ok-meant.ensures ∙ ap (meant_column rows) c.deref-4.ensures.value in
     let numbers_are : numbers ≡ map (λ s. s.variables) (stretches (map (λ r. r.kind) rows)) = c.in_ok-numbers.ensures ∙ ap (λ ks. map (λ s. s.variables) (stretches ks)) c.kinds.ensures in
-    let least_is : c.in_ok-key.key ≡ fold min no_fault (map (fault_at rows words) (range_with_len 0 (length rows))) = c.in_ok-key.ensures ∙ ap (λ (ws : List ℕ). fold min no_fault (map (fault_at rows ws) (range_with_len 0 (length rows)))) c.deref-4.ensures.value in
+    let least_is : c.in_ok-key.key ≡ fold min no_fault (map (fault_at rows words) (range_with_len 0 (length rows))) = c.in_ok-key.ensures ∙ ap (λ (ws : List ℕ). fold min no_fault (map (fault_at rows ws) (range_with_len 0 (length rows)))) c.deref-5.ensures.value in
     let key_is : min c.in_ok-key.key (main_key rows (length tokens) main) ≡ c.min.result = sym (c.min.ensures ∙ ap (min c.in_ok-key.key) (c.main_key.ensures ∙ ap (λ (n : ℕ). main_key rows n main) c.len.ensures)) in
     let columns : (p : Program) → rows ≡ post p → IsFormed (length tokens) (spelled text tokens) p → AreColumns text tokens p meant numbers main c.min.result = λ p is formed.
     subst (AreColumns text tokens p meant numbers main) key_is (columns_are text tokens rows words c.in_ok-words.ensures p is formed c.requires.rows c.requires.tokens meant numbers main c.in_ok-key.key meant_is numbers_are c.main-main.ensures.named least_is) in

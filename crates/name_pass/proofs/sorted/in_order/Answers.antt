@@ -15,4 +15,4 @@ returns g c = if_both c.sorted.result c.sorted.ensures.same_keys c.sorted.ensure
     let text = c.args.text in
     let tokens = c.args.tokens.now in
     let rows = c.args.rows.now in
-    are_keys keep text tokens rows v.items (subst (λ l. IsPermutation l v.items) (c.deref.ensures.value ∙ c.in_ok-keys.ensures ∙ ap (map (key_of text tokens rows)) is) moved) up)
+    are_keys keep text tokens rows c.bytes_fit.ensures v.items (subst (λ l. IsPermutation l v.items) (c.deref.ensures.value ∙ c.in_ok-keys.ensures ∙ ap (map (key_of text tokens rows)) is) moved) up)
