@@ -4,6 +4,7 @@ use Rattle.std.proofs.lemmas.List.{append-nil}
 use Rattle.source_meaning.specs.Grammar.{Nonterminal, Params, Prog, Symbol, Production, fn, left, right, params_some, params_none, Tree, node, Forest, done, leaf, tree, left_parse, forest_parse}
 use Rattle.row_laws.specs.Emitted.{is_early}
 use Rattle.row_laws.specs.Places.{production_at}
+use Rattle.tree_passes.specs.Points.{is_fn}
 
 abbrev is_params : Nonterminal → Bool
 is_params Params = true
@@ -37,10 +38,6 @@ mutual
   forest_follow (leaf l f) qs h = forest_follow f qs h
   forest_follow (tree {a} {ss} r f) qs h =
       subst AllFollow (sym (append_assoc (left_parse r) (forest_parse f) qs)) (tree_follow r (forest_parse f ++ qs) (forest_follow f qs h))
-
-abbrev pub is_fn : Production → Bool
-is_fn fn = true
-is_fn p = false
 
 follow_by : (p : Production) (qs : List Production) → is_fn p ≡ true → Follows p qs → head_params qs ≡ true
 follow_by fn qs e h = h

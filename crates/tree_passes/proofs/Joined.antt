@@ -1,25 +1,16 @@
 -- Which else joins which if, and which productions have a row, from columns.
-use Rattle.std.proofs.Common.{◌≡◌, ℕ, zero, suc, ◌+◌, ◌-◌, ◌<◌, ◌≤◌, Bool, true, false, List, [], ◌∷◌, length, map, get_or, Option, Some, None, refl, sym, ap, ◌∙◌, arith}
+use Rattle.std.proofs.Common.{◌≡◌, ℕ, zero, suc, ◌+◌, ◌-◌, ◌<◌, Bool, true, false, List, [], ◌∷◌, length, get_or, Option, Some, None, refl, sym, ap, ◌∙◌, arith}
 use Rattle.std.specs.Prelude.{if◌then◌else◌, ◌&&◌}
-use Rattle.std.specs.List.{range_with_len}
-use Rattle.std.proofs.lemmas.Simd.{map-map}
 use Rattle.source_meaning.specs.Grammar.{Production, right, stmts_some, stmt_if}
-use Rattle.word_monoid.specs.Folds.{prefixes}
-use Rattle.word_monoid.specs.Instances.{count}
 use Rattle.row_laws.specs.Emitted.{is_early, is_else, is_if}
 use Rattle.row_laws.specs.Levels.{kids, levels}
 use Rattle.row_laws.specs.Joins.{is_cell}
-use Rattle.row_laws.specs.Along.{has_row}
 use Rattle.row_laws.specs.Places.{production_at, open_at, behind, next_low}
-use Rattle.row_laws.specs.Placed.{head_at, joins_by, meets_at, met, joins_at, has_at, rows_before}
-use Rattle.row_laws.specs.Keyed.{is_made}
-use Rattle.tree_passes.specs.Reading.{head_before, joins_of, line_at, makes_of, meets_before, meets_of}
+use Rattle.row_laws.specs.Placed.{head_at, joins_by, meets_at, met, joins_at}
+use Rattle.tree_passes.specs.Reading.{head_before, joins_of, line_at, meets_before, meets_of}
 use Rattle.tree_passes.specs.LineColumns.{AreNumbers, AreNear}
-use Rattle.tree_passes.specs.Orders.{AreMade}
-use Rattle.tree_passes.proofs.LevelColumn.{line_there, lines_many}
+use Rattle.tree_passes.proofs.LevelColumn.{line_there}
 use Rattle.tree_passes.proofs.LineColumns.{none_is}
-use Rattle.tree_passes.proofs.Passed.{row_sums, has_bit}
-use Rattle.tree_passes.proofs.Ranges.{same_below}
 
 cell_kids : (p : Production) → is_cell p ≡ true → kids (right p) ≡ 2
 cell_kids stmts_some e = refl
@@ -75,18 +66,3 @@ joins_is ps numbers next heads zero e near l = first_joins (line_at numbers 0)
 joins_is ps numbers next heads (suc i) e near l =
     (λ j. joins_by (line_there ps numbers (suc i) e j) (before_is ps numbers next heads i e near j) (meets_before numbers next ((head_is heads i ∙ near.begins i (omega arith)) j)))
     ∙ ap (joins_by (production_at ps (suc i)) (meets_at ps i)) (met_is ps numbers next heads (head_at ps i) e near)
-
-pub made_are : (ps : List Production) (numbers next heads : List ℕ) (made : List Bool) → AreNumbers ps numbers → AreNear ps next heads → made ≡ map (makes_of numbers next heads) (range_with_len 0 (length numbers)) → AreMade ps made
-made_are ps numbers next heads made e near is =
-    is
-    ∙ ap (λ (n : ℕ). map (makes_of numbers next heads) (range_with_len 0 n)) (lines_many ps numbers e)
-    ∙ same_below (makes_of numbers next heads) (λ i. is_made (has_at ps i)) (length ps) (λ k l. (λ j. is_made (has_row (line_there ps numbers k e j) (joins_is ps numbers next heads k e near l j))))
-
-pub rows_are : (ps : List Production) (made : List Bool) (rows : List ℕ) → length ps ≤ 536870913 → AreMade ps made → rows ≡ prefixes count (map (λ m. if m then 1 else 0) made) → rows ≡ map (rows_before ps) (range_with_len 0 (suc (length ps)))
-rows_are ps made rows few e is =
-    is
-    ∙ ap (prefixes count)
-    (ap (map (λ (m : Bool). if m then 1 else 0)) e
-    ∙ map-map (λ (m : Bool). if m then 1 else 0) (λ i. is_made (has_at ps i)) (range_with_len 0 (length ps))
-    ∙ same_below (λ i. if is_made (has_at ps i) then 1 else 0) (has_at ps) (length ps) (λ k l. has_bit ps k))
-    ∙ row_sums ps (omega arith)

@@ -1,8 +1,7 @@
 -- The columns of rows in the order of closing are those of their marks.
-use Rattle.std.proofs.Common.{◌≡◌, ℕ, zero, suc, ◌+◌, ◌<◌, ◌≤◌, Bool, true, false, All, List, [], ◌∷◌, ◌++◌, length, map, min, get_or, take, Some, None, refl, sym, ap, ◌∙◌, arith}
-use Rattle.std.specs.Prelude.{if◌then◌else◌, nat_lt}
+use Rattle.std.proofs.Common.{◌≡◌, ℕ, zero, suc, ◌+◌, ◌<◌, ◌≤◌, Bool, true, false, List, [], ◌∷◌, ◌++◌, length, map, min, get_or, take, Some, None, refl, sym, ap, ◌∙◌, arith}
+use Rattle.std.specs.Prelude.{nat_lt}
 use Rattle.std.specs.List.{range_with_len}
-use Rattle.std.proofs.lemmas.Bool.Decides.{nat_tests}
 use Rattle.std.proofs.lemmas.List.{length-map, get_or-map, get_or_append_left, get_or_at}
 use Rattle.std.proofs.lemmas.List.FromFn.{length-range_with_len}
 use Rattle.source_meaning.specs.declared.kinds.Kind.TheVariants.{Binary, Num, Unary, Program as ProgramKind}
@@ -20,10 +19,7 @@ use Rattle.row_laws.specs.Standing.{marks_in}
 use Rattle.row_laws.proofs.Standing.{row_few}
 use Rattle.tree_passes.specs.Shapes.{shape_of, shape_spells, shape_word}
 use Rattle.tree_passes.specs.Spelled.{spelled}
-use Rattle.tree_passes.specs.Columns.{numbers_of}
-use Rattle.tree_passes.specs.Reading.{in_order}
-use Rattle.tree_passes.proofs.Ranges.{same_below}
-use Rattle.tree_passes.proofs.Followed.{is_fn}
+use Rattle.tree_passes.specs.Points.{is_fn}
 
 -- ---- the marks in an order
 module _ (d : Token) (ps : List Production) (ts : List Token) (order : List ℕ) where
@@ -44,15 +40,6 @@ module _ (d : Token) (ps : List Production) (ts : List Token) (order : List ℕ)
 
   pub mark_last : (k : ℕ) → k ≡ length order → mark_at ms_ k ≡ mark ProgramKind None (length order + 1)
   mark_last k e = get_or_at (map (row_at d ps ts) order) (mark ProgramKind None (length order + 1)) [] no_mark k (length-map order (row_at d ps ts) ∙ sym e)
-
-  pub column_is : {X : Type 0} (f : ℕ → X) (whole : X) (g : Mark → X) (n : ℕ) → All (λ i. i < n) order → ((i : ℕ) → i < n → f i ≡ g (row_at d ps ts i)) → whole ≡ g (mark ProgramKind None (length order + 1)) → map (in_order order f whole) (range_with_len 0 (length order + 1)) ≡ map (λ k. g (mark_at ms_ k)) (numbers_of ms_)
-  column_is f whole g n below h w =
-      same_below (in_order order f whole) (λ k. g (mark_at ms_ k)) (length order + 1) (λ k l. by k l (nat_lt k (length order)) refl)
-      ∙ ap (λ (m : ℕ). map (λ k. g (mark_at ms_ k)) (range_with_len 0 m)) (sym marks_many)
-    where
-      by : (k : ℕ) → k < length order + 1 → (b : Bool) → nat_lt k (length order) ≡ b → (if b then f (get_or order k 0) else whole) ≡ g (mark_at ms_ k)
-      by k l true e = let less : k < length order = grind (arith, nat_tests) in h (get_or order k 0) (below k 0 less) ∙ sym (ap g (mark_inside k less))
-      by k l false e = let more : length order ≤ k = grind (arith, nat_tests) in w ∙ sym (ap g (mark_last k (omega arith)))
 
 -- ---- the kind of a row
 abbrev pub is_num : Production → Bool

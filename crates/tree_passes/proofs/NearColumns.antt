@@ -1,28 +1,21 @@
 -- The nearest levels of a left parse, from the two lists of all nearest levels.
-use Rattle.std.proofs.Common.{◌≡◌, ℕ, suc, ◌+◌, ◌≤◌, List, length, map, sym, ap, ◌∙◌, subst, arith}
+use Rattle.std.proofs.Common.{◌≡◌, ℕ, suc, ◌+◌, List, length, map, ap, ◌∙◌}
 use Rattle.std.proofs.lemmas.List.{get_or-map}
 use Rattle.std.proofs.lemmas.List.FromFn.{length-map-range_with_len}
 use Rattle.source_meaning.specs.Grammar.{Prog, Tree, left_parse}
 use Rattle.row_laws.specs.Levels.{levels}
 use Rattle.row_laws.proofs.LevelSums.{parse_levels}
 use Rattle.row_laws.specs.Opened.{level_by}
-use Rattle.nearest_all.specs.Nearest.{Nested, nexts, begins, place_or, next_le, number_at, odd_below}
+use Rattle.nearest_all.specs.Nearest.{nexts, begins, place_or, next_le, number_at, odd_below}
 use Rattle.near_levels.specs.Bounds.{AreBounds}
-use Rattle.near_levels.proofs.Answered.{levels_nest, closes_answered, heads_answered, second_answered, third_answered}
-use Rattle.tree_passes.specs.LineColumns.{AreNear, AreNumbers}
-use Rattle.tree_passes.proofs.LevelColumn.{lines_many}
+use Rattle.near_levels.proofs.Answered.{closes_answered, heads_answered, second_answered, third_answered}
+use Rattle.tree_passes.specs.LineColumns.{AreNear}
 
 pub levels_many : (r : Tree Prog) → length (levels 1 (left_parse r)) ≡ suc (length (left_parse r))
 levels_many r = ap length (parse_levels r) ∙ length-map-range_with_len (level_by (left_parse r)) 0 (suc (length (left_parse r)))
 
-pub levels_few : (r : Tree Prog) (numbers column : List ℕ) → AreNumbers (left_parse r) numbers → length numbers ≤ 536870913 → column ≡ levels 1 (left_parse r) → length column ≤ 536870914
-levels_few r numbers column e few is = let a = lines_many (left_parse r) numbers e in let b = ap length is ∙ levels_many r in omega arith
-
 are_bounds : (vs : List ℕ) → AreBounds vs (map odd_below vs)
 are_bounds vs = record { each = λ k l. get_or-map odd_below vs k 0 0 l }
-
-pub levels_nested : (r : Tree Prog) (vs bs : List ℕ) → vs ≡ levels 1 (left_parse r) → bs ≡ map odd_below vs → Nested vs bs 0 (length vs)
-levels_nested r vs bs e f = subst (λ us. Nested us bs 0 (length us)) (sym e) (levels_nest r bs (subst (AreBounds (levels 1 (left_parse r))) (sym (f ∙ ap (map odd_below) e)) (are_bounds (levels 1 (left_parse r)))))
 
 pub near_is : (r : Tree Prog) (vs bs next heads : List ℕ) → vs ≡ levels 1 (left_parse r) → bs ≡ map odd_below vs → next ≡ nexts vs bs → heads ≡ begins vs bs → AreNear (left_parse r) next heads
 near_is r vs bs next heads e f a b =

@@ -1,33 +1,31 @@
 -- What the passes make of each production is what its row has.
-use Rattle.std.proofs.Common.{◌≡◌, ℕ, zero, suc, ◌+◌, ◌-◌, ◌<◌, ◌≤◌, Bool, true, false, List, [], ◌∷◌, length, map, min, get_or, take, drop, None, refl, sym, ap, ◌∙◌, subst, arith}
+use Rattle.std.proofs.Common.{◌≡◌, ℕ, zero, suc, ◌+◌, ◌<◌, Bool, true, false, List, [], ◌∷◌, length, map, get_or, take, drop, None, refl, sym, ap, ◌∙◌, subst, arith}
 use Rattle.std.specs.Prelude.{if◌then◌else◌, nat_lt, ◌==◌}
-use Rattle.std.specs.List.{range_with_len}
 use Rattle.std.proofs.lemmas.Bool.Decides.{nat_tests}
 use Rattle.source_meaning.specs.declared.kinds.Terminal.TheVariants.{Digits}
 use Rattle.source_meaning.specs.Lexemes.{Token, tokens, lexical_fault}
 use Rattle.source_meaning.specs.Grammar.{Prog, Production, right, fn, p_num, Tree, leaves, left_parse}
 use Rattle.ast_rows.specs.NodeRows.{token_word}
 use Rattle.ast_rows.specs.TokenRows.{TokenRow, row_of}
-use Rattle.row_laws.specs.Emitted.{is_early, is_else}
+use Rattle.row_laws.specs.Emitted.{is_early}
 use Rattle.row_laws.specs.Levels.{kids, levels}
 use Rattle.row_laws.specs.Owned.{reads_count, owned_terminals}
-use Rattle.row_laws.specs.Along.{token_by, first_of, reaches_back}
-use Rattle.row_laws.specs.Places.{production_at, open_at, next_low, behind}
-use Rattle.row_laws.specs.Placed.{close_at, joins_at, rows_before, begin_at, before_it, head_at, reads_at, reads_from, read_at, taken_at, type_named, named_at, row_at}
-use Rattle.row_laws.proofs.ClosesWithin.{closes_within}
+use Rattle.row_laws.specs.Along.{token_by, first_of}
+use Rattle.row_laws.specs.Places.{production_at, open_at, next_low}
+use Rattle.row_laws.specs.Placed.{joins_at, reads_at, reads_from, read_at, taken_at, type_named, named_at, row_at}
 use Rattle.row_laws.proofs.OwnedPlaces.{number_first}
 use Rattle.row_laws.proofs.ReadTerminals.{terminals_read}
 use Rattle.tree_passes.specs.Shapes.{shape_of, shape_spells, shape_word}
 use Rattle.tree_passes.specs.TokensOf.{no_token, no_token_row, token_by_row, first_by, owned_numbers}
-use Rattle.tree_passes.specs.Reading.{lexeme_of, kind_of, joins_of, word_of, size_of, taken_of, numbered}
+use Rattle.tree_passes.specs.Reading.{lexeme_of, kind_of, word_of, taken_of, numbered}
 use Rattle.tree_passes.specs.LineColumns.{AreNumbers, AreNear, AreReads}
-use Rattle.tree_passes.proofs.Followed.{is_fn, fn_followed}
+use Rattle.tree_passes.specs.Points.{is_fn}
+use Rattle.tree_passes.proofs.Followed.{fn_followed}
 use Rattle.tree_passes.proofs.FirstTokens.{first_there}
 use Rattle.tree_passes.proofs.Joined.{joins_is}
 use Rattle.tree_passes.proofs.LevelColumn.{line_there, lines_many}
-use Rattle.tree_passes.proofs.LineColumns.{begin_there, taken_placed, none_is, head_within}
-use Rattle.tree_passes.proofs.MarkColumns.{kind_is, far_other, number_only, is_num, reads_some, rows_few, spelled_reads}
-use Rattle.tree_passes.proofs.Ranges.{value_at}
+use Rattle.tree_passes.proofs.LineColumns.{taken_placed, none_is}
+use Rattle.tree_passes.proofs.MarkColumns.{kind_is, far_other, number_only, is_num, reads_some, spelled_reads}
 use Rattle.tree_passes.proofs.TokenFacts.{Each, each_token, each_read, first_digits}
 
 row_start : (rows : List TokenRow) (j : ℕ) → get_or (map (λ r. r.start) rows) j 0 ≡ (get_or rows j no_token_row).start
@@ -48,21 +46,6 @@ lexeme_there text rows j = λ i. take (row_length rows j i) (drop (row_start row
 -- of the token that stands where a production reads first
 lexeme_back : (text : List ℕ) (rows : List TokenRow) (t : Token) (j : ℕ) → t ≡ token_by_row text rows j → lexeme_of text (map (λ r. r.start) rows) (map (λ r. r.length) rows) t.number ≡ t.lexeme
 lexeme_back text rows t j e = ap (λ (k : Token). lexeme_of text (map (λ r. r.start) rows) (map (λ r. r.length) rows) k.number) e ∙ lexeme_there text rows j ∙ sym (ap (λ (k : Token). k.lexeme) e)
-
-begins_within : (ps : List Production) (i : ℕ) → begin_at ps i ≤ i
-begins_within ps i = by (reaches_back (production_at ps i) (joins_at ps i)) (pick (is_else (production_at ps i)))
-  where
-    less : (i : ℕ) → before_it i ≤ i
-    less zero = omega arith
-    less (suc i) = omega arith
-
-    pick : (b : Bool) → behind (head_at ps (if b then before_it i else i)) ≤ i
-    pick true = let h = head_within ps (before_it i) in let l = less i in omega arith
-    pick false = head_within ps i
-
-    by : (b : Bool) → behind (head_at ps (if is_else (production_at ps i) then before_it i else i)) ≤ i → (if b then behind (head_at ps (if is_else (production_at ps i) then before_it i else i)) else i) ≤ i
-    by true h = h
-    by false h = omega arith
 
 num_reads : (p : Production) → is_num p ≡ true → owned_terminals (right p) ≡ Digits ∷ []
 num_reads p_num e = refl
@@ -130,9 +113,3 @@ module _ (r : Tree Prog) (text numbers : List ℕ) (is : leaves r ≡ tokens tex
       taken_is : (i : ℕ) → i < length ps_ → taken_of numbers read heads i ≡ taken_at ps_ ts_ i
       taken_is zero l = refl
       taken_is (suc i) l = not_first (suc i == 0) (none_is i) _ _ (taken_placed ps_ ts_ numbers read heads (suc i) (omega arith) (let m = lines_many ps_ numbers e in omega arith) e known near.begins)
-
-  pub size_there : length ps_ ≤ 536870913 → (rows next heads : List ℕ) → rows ≡ map (rows_before ps_) (range_with_len 0 (suc (length ps_))) → AreNear ps_ next heads → (i : ℕ) → i < length ps_ → size_of rows next numbers heads i ≡ (row_at no_token ps_ ts_ i).size
-  size_there few rows next heads known near i l =
-      (λ j. min (get_or rows (near.closes i l j) 0 - get_or rows (begin_there ps_ numbers heads i (joins_of numbers next heads i) (joins_is ps_ numbers next heads i e near l) e near.begins l j) 0) 4294967295)
-      ∙ (λ j. min (value_at (rows_before ps_) 0 (suc (length ps_)) rows (close_at ps_ i) known (let w = closes_within r i l in omega arith) j - value_at (rows_before ps_) 0 (suc (length ps_)) rows (begin_at ps_ i) known (let w = begins_within ps_ i in omega arith) j) 4294967295)
-      ∙ (let a = rows_few ps_ (close_at ps_ i) in let f : min (rows_before ps_ (close_at ps_ i) - rows_before ps_ (begin_at ps_ i)) 4294967295 ≡ rows_before ps_ (close_at ps_ i) - rows_before ps_ (begin_at ps_ i) = omega arith in f)

@@ -11,9 +11,8 @@ use Rattle.row_laws.specs.Owned.{reads_count}
 use Rattle.row_laws.specs.Evals.{is_eval}
 use Rattle.row_laws.specs.Joins.{is_cell}
 use Rattle.row_laws.specs.Shifts.{is_call}
-use Rattle.row_laws.specs.Along.{has_row, reaches_back, token_by}
-use Rattle.row_laws.specs.Placed.{before_it, joins_by, type_named}
-use Rattle.row_laws.specs.Keyed.{is_made}
+use Rattle.row_laws.specs.Along.{token_by}
+use Rattle.row_laws.specs.Placed.{joins_by, type_named}
 use Rattle.tree_passes.specs.Numbers.{production_of}
 use Rattle.tree_passes.specs.Shapes.{shape_of, shape_spells, shape_word}
 use Rattle.tree_passes.specs.RowFaults.{kind_at}
@@ -44,20 +43,9 @@ head_before heads k = if k == 0 then 0 else slice_index_or heads (k - 1) 0
 abbrev pub joins_of : (numbers next heads : List ℕ) → ℕ → Bool
 joins_of numbers next heads k = joins_by (line_at numbers k) (meets_before numbers next k) (meets_before numbers next (head_before heads k))
 
--- whether a production has a row
-abbrev pub makes_of : (numbers next heads : List ℕ) → ℕ → Bool
-makes_of numbers next heads k = is_made (has_row (line_at numbers k) (joins_of numbers next heads k))
-
--- where the subtree of a row begins
-abbrev pub begin_of : (numbers next heads : List ℕ) → ℕ → ℕ
-begin_of numbers next heads k =
-    if reaches_back (line_at numbers k) (joins_of numbers next heads k)
-    then (if is_else (line_at numbers k) then slice_index_or heads (before_it k) 0 else slice_index_or heads k 0)
-    else k
-
--- where the row of a production stands in the order of closing, from how many rows are made and how many are closed before each place
-abbrev pub stands_of : (rows closed next : List ℕ) → ℕ → ℕ
-stands_of rows closed next i = slice_index_or rows (slice_index_or next i 0) 0 - suc (slice_index_or rows i 0 - slice_index_or closed (suc i) 0)
+-- where row k stands in the order of closing, from how many rows are made before each is closed, and how many of these are below each number
+abbrev pub stands_of : (ends closed : List ℕ) → ℕ → ℕ
+stands_of ends closed k = slice_index_or ends k 0 - suc (k - slice_index_or closed (suc k) 0)
 
 -- a token of this number
 abbrev pub numbered : ℕ → Token
@@ -91,10 +79,6 @@ kind_of text starts lengths read numbers next i =
 -- the word of its own token; none for a statement that is a value
 abbrev pub word_of : (numbers : List ℕ) → (read : ℕ → ℕ) → (next heads : List ℕ) → ℕ → ℕ
 word_of numbers read next heads i = token_word (token_by (line_at numbers i) (numbered (read i)) (taken_of numbers read heads i) (joins_of numbers next heads i) None)
-
--- how many rows its subtree has
-abbrev pub size_of : (rows next numbers heads : List ℕ) → ℕ → ℕ
-size_of rows next numbers heads i = min (slice_index_or rows (slice_index_or next i 0) 0 - slice_index_or rows (begin_of numbers next heads i) 0) 4294967295
 
 -- what the productions have, in an order, and behind them what the program has
 abbrev pub in_order : {X : Type 0} → List ℕ → (ℕ → X) → X → ℕ → X

@@ -1,36 +1,35 @@
 -- How many nonterminals productions open, and how many owned tokens they read.
-use Rattle.std.specs.Prelude.{ℕ, ◌+◌, ◌*◌, ◌/◌, ◌%◌, ◌^◌, ◌&&◌, nat_lt, List, map, slice_index_or}
-use Rattle.word_monoid.specs.Monoid.{Ops}
-use Rattle.word_monoid.specs.Folds.{prefixes}
-use Rattle.source_meaning.specs.Grammar.{Production, right}
+use Rattle.std.specs.Prelude.{◌≡◌, ℕ, ◌+◌, ◌-◌, ◌<◌, ◌≤◌, List, length, min, slice_index_or}
+use Rattle.source_meaning.specs.Grammar.{right}
+use Rattle.nearest_all.specs.Nearest.{number_at}
+use Rattle.nearest_all.specs.Stretches.{start_of}
 use Rattle.row_laws.specs.Levels.{kids}
 use Rattle.row_laws.specs.Owned.{reads_count}
 use Rattle.tree_passes.specs.Numbers.{production_of}
+use Rattle.tree_passes.specs.Points.{kids_before, reads_before}
 use Rattle.tree_passes.specs.declared.tallies.Tally.{Tally}
 
 abbrev pub no_tally : Tally
 no_tally = record { kids = 0; reads = 0 }
 
--- each is added modulo 2 ^ 31
-abbrev pub tallies : Ops Tally
-tallies = record {
-  accepts = λ t. nat_lt t.kids (2 ^ 31) && nat_lt t.reads (2 ^ 31);
-  unit = no_tally;
-  join = λ a b. record { kids = (a.kids + b.kids) % 2 ^ 31; reads = (a.reads + b.reads) % 2 ^ 31 };
-  code = λ t. t.kids * 2 ^ 31 + t.reads;
-  decode = λ word. record { kids = word / 2 ^ 31 % 2 ^ 31; reads = word % 2 ^ 31 };
-}
+-- with one production more
+abbrev pub tally_more : Tally → ℕ → Tally
+tally_more tally number = record { kids = tally.kids + kids (right (production_of number)); reads = tally.reads + reads_count (production_of number) }
 
--- of one production
-abbrev pub tally_of : Production → Tally
-tally_of p = record { kids = kids (right p); reads = reads_count p }
+-- both together, where the greatest number of 32 bits stands for each greater one
+abbrev pub tally_both : Tally → Tally → Tally
+tally_both a b = record { kids = min (a.kids + b.kids) 4294967295; reads = min (a.reads + b.reads) 4294967295 }
 
--- of the productions before each place, and of all
-abbrev pub tallies_by : List ℕ → List Tally
-tallies_by numbers = prefixes tallies (map (λ q. tally_of (production_of q)) numbers)
+-- of the productions before a place
+abbrev pub tally_before : List ℕ → ℕ → Tally
+tally_before numbers k = record { kids = kids_before numbers k; reads = reads_before numbers k }
 
-abbrev pub kids_in : List Tally → ℕ → ℕ
-kids_in column k = (slice_index_or column k no_tally).kids
+-- of those from a place on, before another one
+abbrev pub tally_between : List ℕ → ℕ → ℕ → Tally
+tally_between numbers from to = record { kids = kids_before numbers to - kids_before numbers from; reads = reads_before numbers to - reads_before numbers from }
 
-abbrev pub reads_in : List Tally → ℕ → ℕ
-reads_in column k = (slice_index_or column k no_tally).reads
+-- they are those of the first stretches of so many productions
+pub record AreSums (numbers ends : List ℕ) (tallies : List Tally) : Type 0 where
+  pub each : (c : ℕ) → c < length tallies → slice_index_or tallies c no_tally ≡ tally_between numbers (start_of ends c) (number_at ends c)
+  pub order : (c : ℕ) → c < length tallies → start_of ends c ≤ number_at ends c
+  pub few : (c : ℕ) → c < length tallies → number_at ends c ≤ 536870914

@@ -1,5 +1,5 @@
 -- What the passes find of a parse tree, and of the rows of its syntax tree.
-use Rattle.std.specs.Prelude.{◌≡◌, ℕ, suc, ◌-◌, ◌/◌, ◌^◌, ◌<◌, ◌≤◌, List, length, map, min, fold, Option, Some, None}
+use Rattle.std.specs.Prelude.{◌≡◌, ℕ, suc, ◌-◌, ◌/◌, ◌^◌, ◌<◌, ◌≤◌, All, List, length, map, min, fold, Option, Some, None}
 use Rattle.std.specs.List.{range_with_len}
 use Rattle.source_meaning.specs.declared.kinds.Kind.{Kind}
 use Rattle.source_meaning.specs.Lexemes.{tokens}
@@ -8,20 +8,24 @@ use Rattle.source_meaning.specs.Rows.{post}
 use Rattle.source_meaning.specs.Shape.{shape_faults}
 use Rattle.ast_rows.specs.NodeRows.{token_word}
 use Rattle.row_laws.specs.Marks.{Mark}
-use Rattle.row_laws.specs.Placed.{rows_before}
+use Rattle.row_laws.specs.Places.{sum_before}
+use Rattle.row_laws.specs.Placed.{has_at}
 use Rattle.row_laws.specs.Climbed.{mark_at, row_by_lists, settled_at}
 use Rattle.row_laws.specs.Faulted.{Tells, fault_keys}
 use Rattle.tree_passes.specs.Columns.{numbers_of}
 use Rattle.tree_passes.specs.Orders.{IsOrder}
+use Rattle.tree_passes.specs.PointRows.{spot}
+use Rattle.tree_passes.specs.declared.points.Point.{Point}
 
 -- the tree's leaves are the tokens of the text, and its left parse has these numbers
 abbrev pub IsParseOf : (text parse : List ℕ) → Tree Prog → Type 0
 IsParseOf text parse r = (leaves r ≡ tokens text) × (map number_of (left_parse r) ≡ parse)
 
--- how many rows are made before each place, and the order in which they are closed
-pub record AreClosing (ps : List Production) (rows order : List ℕ) : Type 0 where
-  pub rows_are : rows ≡ map (rows_before ps) (range_with_len 0 (suc (length ps)))
-  pub ordered : IsOrder ps order
+-- how many rows the points before each one have, and the points in the order in which their rows are closed
+pub record AreClosing (ps : List Production) (points : List Point) (rows order : List ℕ) : Type 0 where
+  pub rows_are : rows ≡ map (sum_before (map (λ x. has_at ps x.place) points)) (range_with_len 0 (suc (length points)))
+  pub ordered : IsOrder ps (map (spot points) order)
+  pub within : All (λ x. x < length points) order
 
 -- kinds, sizes and own tokens are those of the rows of these marks
 pub record AreRowColumns (ms : List Mark) (kinds : List Kind) (sizes tokens : List ℕ) : Type 0 where

@@ -8,25 +8,13 @@ ghost use Rattle.row_laws.specs.Keyed.{makers as makers_of};
 ghost use Rattle.row_laws.specs.Standing.{standing_at};
 ghost use Rattle.scatter_rows.specs.Scattered.{AreDistinct};
 ghost use Rattle.tree_passes.specs.Reading.{stands_of};
-ghost use Rattle.tree_passes.specs.Orders.{AreClosed, AreMade, IsOrder, IsPlaced};
+ghost use Rattle.tree_passes.specs.Orders.{AreEnds, IsPlaced};
 
 use crate::columns::{number, sum};
-use crate::joining::makers;
 use key_passes::counted;
 use par_passes::{Lift, Passes};
 use std::alloc::AllocError;
 use word_monoid::Count;
-
-// Where the rows of these productions are closed.
-fn close_keys(crew: &impl Passes, makers: &[u32], next: &[u32]) -> Result<Vec<u32>, AllocError>
-    requires few { length makers.now ≤ 536870913 }
-    ensures { IfOk result (λ v. v.items ≡ map (λ i. slice_index_or next.now i 0) makers.now) }
-{
-    let at = |i: u32| -> u32
-        ensures { result ≡ slice_index_or next.entry.now i 0 }
-    { number(next, i as usize) };
-    crew.map(makers, &at)
-}
 
 // A count as a number that is added.
 struct Wide;
@@ -47,32 +35,26 @@ pub(crate) fn closed_sums(crew: &impl Passes, counts: &[u32]) -> Result<Vec<u64>
     crew.scan_lifted(&Count, counts, &Wide)
 }
 
-// Where the row of a production stands.
-fn stands_in(rows: &[u64], closed: &[u64], next: &[u32], place: u32) -> u64
-    ensures { result ≡ stands_of rows.now closed.now next.now place }
+// Where row k stands.
+fn stands_in(ends: &[u32], closed: &[u64], k: u32) -> u64
+    ensures { result ≡ stands_of ends.now closed.now k }
 {
-    let at = place as usize;
-    let open = sum(rows, at).saturating_sub(sum(closed, at + 1));
-    sum(rows, number(next, at) as usize)
+    let at = k as usize;
+    let open = u64::from(k).saturating_sub(sum(closed, at + 1));
+    u64::from(number(ends, at))
         .saturating_sub(open)
         .saturating_sub(1)
 }
 
-// Where each of them stands.
-fn standing_all(
-    crew: &impl Passes,
-    makers: &[u32],
-    rows: &[u64],
-    closed: &[u64],
-    next: &[u32],
-) -> Result<Vec<u64>, AllocError>
-    requires few { length makers.now ≤ 536870913 }
-    ensures { IfOk result (λ v. v.items ≡ map (stands_of rows.now closed.now next.now) makers.now) }
+// Where each row stands.
+fn standing_all(crew: &impl Passes, ends: &[u32], closed: &[u64]) -> Result<Vec<u64>, AllocError>
+    requires few { length ends.now ≤ 536870913 }
+    ensures { IfOk result (λ v. v.items ≡ map (stands_of ends.now closed.now) (range_with_len 0 (length ends.now))) }
 {
-    let at = |i: u32| -> u64
-        ensures { result ≡ stands_of rows.entry.now closed.entry.now next.entry.now i }
-    { stands_in(rows, closed, next, i) };
-    crew.map(makers, &at)
+    let at = |k: u32| -> u64
+        ensures { result ≡ stands_of ends.entry.now closed.entry.now k }
+    { stands_in(ends, closed, k) };
+    crew.tabulate(ends.len() as u32, &at)
 }
 
 // The same numbers in more room.
@@ -91,26 +73,19 @@ fn narrowed(crew: &impl Passes, numbers: &[u64], most: u32) -> Result<Vec<u32>, 
     crew.map(numbers, &|x: u64| x.min(u64::from(most)) as u32)
 }
 
-/// Where each row stands in the order of closing, by the productions that have one.
-pub(crate) fn standing(
-    crew: &impl Passes,
-    makers: &[u32],
-    rows: &[u64],
-    next: &[u32],
-) -> Result<Vec<u64>, AllocError>
-    requires few { length makers.now ≤ 536870913 }
-    requires ends { length next.now ≤ 536870914 }
-    requires closes { All (λ i. slice_index_or next.now i 0 < length next.now) makers.now }
-    ensures { IfOk result (λ v. (ps : List Production) → length ps ≤ 536870913 → makers.now ≡ makers_of ps → AreClosed ps rows.now next.now → v.items ≡ map (standing_at ps) makers.now) }
+/// Where each row stands in the order of closing, from how many rows are made before each is closed.
+pub(crate) fn standing(crew: &impl Passes, ends: &[u32]) -> Result<Vec<u64>, AllocError>
+    requires few { length ends.now ≤ 536870913 }
+    requires within { (k : ℕ) → k < length ends.now → slice_index_or ends.now k 0 ≤ length ends.now }
+    ensures { IfOk result (λ v. (ps : List Production) → length ps ≤ 536870913 → AreEnds ps ends.now → v.items ≡ map (standing_at ps) (makers_of ps)) }
 {
-    let keys = close_keys(crew, makers, next)?;
-    let counts = counted(crew, keys.as_slice(), next.len())?;
+    let counts = counted(crew, ends, ends.len() + 1)?;
     let closed = closed_sums(crew, counts.as_slice())?;
-    standing_all(crew, makers, rows, closed.as_slice(), next)
+    standing_all(crew, ends, closed.as_slice())
 }
 
-/// The productions that have a row, each where its row stands.
-pub(crate) fn placed(
+/// The points that have a row, each where its row stands.
+fn placed(
     crew: &impl Passes,
     makers: &[u32],
     places: &[u64],
@@ -127,23 +102,19 @@ pub(crate) fn placed(
     narrowed(crew, cells.as_slice(), most)
 }
 
-/// The order in which rows are closed.
+/// The points that have a row in the order in which the rows are closed, from how many rows are made before each is closed; `most` is
+/// the greatest of them that may occur.
 pub(crate) fn order(
     crew: &impl Passes,
-    made: &[bool],
-    rows: &[u64],
-    next: &[u32],
+    makers: &[u32],
+    ends: &[u32],
+    most: u32,
 ) -> Result<Vec<u32>, AllocError>
-    requires few { length made.now ≤ 536870913 }
-    requires known { (ps : List Production) × AreMade ps made.now × AreClosed ps rows.now next.now }
-    ensures { IfOk result (λ v. (ps : List Production) → AreMade ps made.now → AreClosed ps rows.now next.now → IsOrder ps v.items) }
+    requires few { length makers.now ≤ 536870913 }
+    requires ends { length ends.now ≡ length makers.now }
+    requires known { (ps : List Production) × (length ps ≤ 536870913) × AreEnds ps ends.now }
+    ensures { IfOk result (λ v. (ps : List Production) → length ps ≤ 536870913 → AreEnds ps ends.now → IsPlaced (map (standing_at ps) (makers_of ps)) makers.now most v.items) }
 {
-    let makers = makers(crew, made)?;
-    let places = standing(crew, makers.as_slice(), rows, next)?;
-    placed(
-        crew,
-        makers.as_slice(),
-        places.as_slice(),
-        made.len().saturating_sub(1) as u32,
-    )
+    let places = standing(crew, ends)?;
+    placed(crew, makers, places.as_slice(), most)
 }

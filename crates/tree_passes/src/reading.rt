@@ -1,13 +1,14 @@
 //! The tokens that productions read, and their lexemes.
-ghost use Rattle.std.specs.Prelude.{◌≡◌, ◌==◌, ◌≤◌, if◌then◌else◌, length, take, drop, slice_index_or, IfOk};
-ghost use Rattle.tree_passes.specs.Tallies.{reads_in};
+ghost use Rattle.std.specs.Prelude.{◌≡◌, ◌≤◌, length, take, drop, IfOk};
 ghost use Rattle.tree_passes.specs.TokensOf.{owned_numbers};
-ghost use Rattle.tree_passes.specs.Reading.{lexeme_of, read_of, taken_of};
+ghost use Rattle.tree_passes.specs.Reading.{lexeme_of};
+ghost use Rattle.tree_passes.specs.PointRows.{read_before as read_before_of, read_by, taken_by};
 
 use crate::columns::{number, production};
+use crate::joining::head_behind;
 use crate::numbers::{is_call, reads};
+use crate::points::{Point, point_of, spot};
 use crate::spelled::is_owned;
-use crate::tallies::{Tally, tally_before};
 use par_passes::Passes;
 use source_meaning::Terminal;
 use std::alloc::AllocError;
@@ -20,51 +21,49 @@ pub(crate) fn owned_all(crew: &impl Passes, kinds: &[Terminal]) -> Result<Vec<u3
     crew.positions(kinds, &|kind: Terminal| is_owned(kind))
 }
 
-/// What tells the tokens that productions read.
-#[derive(Drop)]
-pub(crate) struct TokenReads {
-    /// The numbers of the tokens that are own tokens of rows.
-    pub(crate) owned: Vec<u32>,
-    /// The tallies of the productions before each place.
-    pub(crate) tallies: Vec<Tally>,
-}
-
-/// The number of the token that the production at a place reads first, and 0 where it reads none.
-pub(crate) fn read_in(tokens: &TokenReads, numbers: &[u16], place: u32) -> u32
-    ensures { result ≡ read_of tokens.now.owned.items (reads_in tokens.now.tallies.items) numbers.now place }
+/// The number of the token that a point's production reads first, and 0 where it reads none.
+pub(crate) fn read_in(owned: &[u32], numbers: &[u16], points: &[Point], at: u32) -> u32
+    ensures { result ≡ read_by owned.now numbers.now points.now at }
 {
-    let at = place as usize;
-    if reads(production(numbers, at)) == 0 {
+    let point = point_of(points, at as usize);
+    if reads(production(numbers, point.place as usize)) == 0 {
         0
     } else {
-        let before = tally_before(tokens.tallies.as_slice(), at);
-        number(tokens.owned.as_slice(), before.reads as usize)
+        number(owned, point.reads as usize)
     }
 }
 
-// The same, and 0 at the first place.
-fn read_behind(tokens: &TokenReads, numbers: &[u16], place: u32) -> u32
-    ensures { result ≡ (if place == 0 then 0 else read_of tokens.now.owned.items (reads_in tokens.now.tallies.items) numbers.now place) }
+// The same of the production right before the point.
+fn read_before(owned: &[u32], numbers: &[u16], points: &[Point], at: u32) -> u32
+    ensures { result ≡ read_before_of owned.now numbers.now points.now at }
 {
-    if place == 0 {
+    let point = point_of(points, at as usize);
+    let count = reads(production(numbers, point.place.saturating_sub(1) as usize));
+    if count == 0 {
         0
     } else {
-        read_in(tokens, numbers, place)
+        number(owned, point.reads.saturating_sub(u32::from(count)) as usize)
     }
 }
 
-/// The number of the token that the row at a place may take from before it: that of a call's name, or of the if that an else joins.
-pub(crate) fn taken_in(tokens: &TokenReads, numbers: &[u16], heads: &[u32], place: u32) -> u32
-    ensures { result ≡ taken_of numbers.now (read_of tokens.now.owned.items (reads_in tokens.now.tallies.items) numbers.now) heads.now place }
+/// The number of the token that a point's row may take from before it: that of a call's name, or of the if that an else joins.
+pub(crate) fn taken_in(
+    owned: &[u32],
+    numbers: &[u16],
+    points: &[Point],
+    heads: &[u32],
+    at: u32,
+) -> u32
+    ensures { result ≡ taken_by owned.now numbers.now points.now heads.now at }
 {
+    let place = spot(points, at as usize);
     if place == 0 {
         return 0;
     }
-    let before = place - 1;
-    if is_call(production(numbers, place as usize)) {
-        read_in(tokens, numbers, before)
+    if is_call(production(numbers, place)) {
+        read_before(owned, numbers, points, at)
     } else {
-        read_behind(tokens, numbers, number(heads, before as usize))
+        read_in(owned, numbers, points, head_behind(heads, at))
     }
 }
 

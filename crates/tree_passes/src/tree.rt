@@ -1,5 +1,5 @@
 //! The rows of a syntax tree.
-ghost use Rattle.std.specs.Prelude.{◌≡◌, ℕ, ◌-◌, ◌/◌, ◌%◌, ◌<◌, ◌≤◌, ◌^◌, List, [], None, Some, Err, length, map, fold, min, IfOk};
+ghost use Rattle.std.specs.Prelude.{◌≡◌, ℕ, suc, ◌-◌, ◌/◌, ◌%◌, ◌<◌, ◌≤◌, ◌^◌, List, [], None, Some, Err, length, map, fold, min, IfOk};
 ghost use Rattle.source_meaning.specs.Lexemes.{lexical_fault, tokens as tokens_of};
 ghost use Rattle.source_meaning.specs.Grammar.{Prog, Tree, ast, leaves, left_parse};
 ghost use Rattle.source_meaning.specs.Rows.{post};
@@ -11,31 +11,31 @@ ghost use Rattle.row_laws.specs.Standing.{marks_in};
 ghost use Rattle.row_laws.specs.Climbed.{row_by_lists};
 ghost use Rattle.tree_passes.specs.Columns.{numbers_of};
 ghost use Rattle.row_laws.specs.Faulted.{fault_keys as keys_of};
-ghost use Rattle.tree_passes.specs.LineColumns.{AreNear, AreNumbers, AreReads};
-ghost use Rattle.tree_passes.specs.Reading.{read_of};
-ghost use Rattle.tree_passes.specs.Tallies.{reads_in, tallies_by};
-ghost use Rattle.tree_passes.specs.TokensOf.{no_token};
+ghost use Rattle.tree_passes.specs.LineColumns.{AreNumbers};
+ghost use Rattle.tree_passes.specs.PointRows.{AreGroups, spot};
+ghost use Rattle.tree_passes.specs.Points.{Covers};
+ghost use Rattle.tree_passes.specs.TokensOf.{AreOwned, no_token};
 ghost use Rattle.tree_passes.specs.TreeColumns.{AreClosing, AreRowColumns, AreSmall, AreTreeColumns, IsLeastKey, IsParseOf};
 ghost use Rattle.tree_passes.specs.declared.fault.ShapeFault.TheVariants.{Diagnostic as Told};
 
 use crate::climbing::{fault_keys, lows_all, parents_all, places_all, tokens_all};
 use crate::fault::ShapeFault;
-use crate::joining::{made_all, row_sums};
+use crate::joining::{made_all, makers, row_sums};
 use crate::laid::lay;
 use crate::levels::near;
 use crate::ordering::{closed_sums, order};
-use crate::reading::{TokenReads, owned_all};
-use crate::row_columns::{kinds_all, sizes_all, words_all};
-use crate::tallies::{Tally, tallies_all};
+use crate::points::{Point, points_all};
+use crate::reading::owned_all;
+use crate::row_columns::{ends_all, kinds_all, sizes_all, words_all};
 use ast_rows::{Rows, Tokens};
 use key_passes::counted;
 use near_stretches::all_nearest;
 use nearest_all::Nearest;
 use par_passes::Passes;
-use source_meaning::{Kind, Terminal};
+use source_meaning::Kind;
 use std::alloc::AllocError;
 
-// How many rows are made before each place, and the order in which they are closed.
+// How many rows the points before each one have, and the points in the order in which their rows are closed.
 #[derive(Drop)]
 struct Closing {
     rows: Vec<u64>,
@@ -45,33 +45,23 @@ struct Closing {
 fn closing_order(
     crew: &impl Passes,
     numbers: &[u16],
+    points: &[Point],
     next: &[u32],
     heads: &[u32],
 ) -> Result<Closing, AllocError>
     requires few { length numbers.now ≤ 536870913 }
-    requires parsed { (r : Tree Prog) × AreNumbers (left_parse r) numbers.now × AreNear (left_parse r) next.now heads.now }
-    ensures { IfOk result (λ v. (r : Tree Prog) → AreNumbers (left_parse r) numbers.now → AreNear (left_parse r) next.now heads.now → AreClosing (left_parse r) v.rows.items v.order.items) }
+    requires points { Covers numbers.now 0 (suc (length numbers.now)) points.now }
+    requires groups { AreGroups points.now next.now heads.now }
+    requires parsed { (r : Tree Prog) × AreNumbers (left_parse r) numbers.now }
+    ensures { IfOk result (λ v. (r : Tree Prog) → AreNumbers (left_parse r) numbers.now → AreClosing (left_parse r) points.now v.rows.items v.order.items) }
 {
-    let made = made_all(crew, numbers, next, heads)?;
+    let made = made_all(crew, numbers, points, next, heads)?;
     let rows = row_sums(crew, made.as_slice())?;
-    let order = order(crew, made.as_slice(), rows.as_slice(), next)?;
+    let makers = makers(crew, made.as_slice())?;
+    let ends = ends_all(crew, rows.as_slice(), next, makers.as_slice())?;
+    let most = points.len().saturating_sub(2) as u32;
+    let order = order(crew, makers.as_slice(), ends.as_slice(), most)?;
     Ok(Closing { rows, order })
-}
-
-// What tells the token that each production reads first.
-fn reads(
-    crew: &impl Passes,
-    kinds: &[Terminal],
-    numbers: &[u16],
-    tallies: Vec<Tally>,
-) -> Result<TokenReads, AllocError>
-    requires few { length numbers.now ≤ 536870913 }
-    requires kinds { length kinds.now ≤ 4294967295 }
-    requires tallies { tallies.items ≡ tallies_by numbers.now }
-    ensures { IfOk result (λ v. (r : Tree Prog) (text : List ℕ) → IsParseOf text numbers.now r → kinds.now ≡ map (λ t. t.terminal) (map row_of (tokens_of text)) → AreReads (left_parse r) (leaves r) (read_of v.owned.items (reads_in v.tallies.items) numbers.now)) }
-{
-    let owned = owned_all(crew, kinds)?;
-    Ok(TokenReads { owned, tallies })
 }
 
 // Kinds, sizes and own tokens of the rows.
@@ -87,17 +77,20 @@ fn find_columns(
     crew: &impl Passes,
     text: &[u8],
     tokens: &Tokens,
+    owned: &[u32],
     numbers: &[u16],
+    points: &[Point],
     nearest: &Nearest,
     closing: &Closing,
-    reads: &TokenReads,
 ) -> Result<Columns, AllocError>
     requires small { length text.now ≤ 2 ^ 24 }
     requires few { length numbers.now ≤ 536870913 }
     requires order { length closing.now.order.items ≤ 536870913 }
     requires lexical { lexical_fault text.now ≡ None }
     requires tokens { tokens.now ≡ map row_of (tokens_of text.now) }
-    ensures { IfOk result (λ v. (r : Tree Prog) → IsParseOf text.now numbers.now r → AreNear (left_parse r) nearest.now.next.items nearest.now.begin.items → AreClosing (left_parse r) closing.now.rows.items closing.now.order.items → AreReads (left_parse r) (leaves r) (read_of reads.now.owned.items (reads_in reads.now.tallies.items) numbers.now) → AreRowColumns (marks_in no_token (left_parse r) (leaves r) closing.now.order.items) v.kinds.items v.sizes.items v.tokens.items) }
+    requires points { Covers numbers.now 0 (suc (length numbers.now)) points.now }
+    requires groups { AreGroups points.now nearest.now.next.items nearest.now.begin.items }
+    ensures { IfOk result (λ v. (r : Tree Prog) → IsParseOf text.now numbers.now r → AreClosing (left_parse r) points.now closing.now.rows.items closing.now.order.items → AreOwned text.now owned.now → AreRowColumns (marks_in no_token (left_parse r) (leaves r) (map (spot points.now) closing.now.order.items)) v.kinds.items v.sizes.items v.tokens.items) }
 {
     let (next, heads) = (nearest.next.as_slice(), nearest.begin.as_slice());
     let order = closing.order.as_slice();
@@ -106,13 +99,22 @@ fn find_columns(
         text,
         tokens.starts(),
         tokens.lengths(),
-        reads,
+        owned,
         numbers,
+        points,
         next,
         order,
     )?;
-    let sizes = sizes_all(crew, closing.rows.as_slice(), next, numbers, heads, order)?;
-    let words = words_all(crew, numbers, reads, next, heads, order)?;
+    let sizes = sizes_all(
+        crew,
+        numbers,
+        points,
+        closing.rows.as_slice(),
+        next,
+        heads,
+        order,
+    )?;
+    let words = words_all(crew, owned, numbers, points, next, heads, order)?;
     let tokens = tokens_all(crew, kinds.as_slice(), words.as_slice())?;
     Ok(Columns {
         kinds,
@@ -150,16 +152,27 @@ fn tree_columns(
     requires parsed { (r : Tree Prog) × IsParseOf text.now numbers.now r }
     ensures { IfOk result (λ v. (r : Tree Prog) → IsParseOf text.now numbers.now r → AreTreeColumns r v.kinds.items v.sizes.items v.tokens.items) }
 {
-    let tallies = tallies_all(crew, numbers)?;
-    let nearest = near(crew, tallies.as_slice(), numbers)?;
+    let points = points_all(crew, numbers)?;
+    let points = points.as_slice();
+    let nearest = near(crew, points)?;
     let closing = closing_order(
         crew,
         numbers,
+        points,
         nearest.next.as_slice(),
         nearest.begin.as_slice(),
     )?;
-    let reads = reads(crew, tokens.kinds(), numbers, tallies)?;
-    find_columns(crew, text, tokens, numbers, &nearest, &closing, &reads)
+    let owned = owned_all(crew, tokens.kinds())?;
+    find_columns(
+        crew,
+        text,
+        tokens,
+        owned.as_slice(),
+        numbers,
+        points,
+        &nearest,
+        &closing,
+    )
 }
 
 // The least key of the rows' faults.
