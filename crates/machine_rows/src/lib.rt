@@ -8,4 +8,6 @@ mod linked;
 #[cfg(test)]
 mod machines;
 #[cfg(test)]
+mod regions;
+#[cfg(test)]
 mod words;
