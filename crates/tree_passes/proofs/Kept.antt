@@ -63,7 +63,7 @@ covers_from numbers (suc count) low from place gap none = by (covers_from number
         let b = both_not (keeps numbers place) (is_none count) e in
         subst (λ (to : ℕ). Covers numbers from to (points_from numbers (min low (level_there numbers place)) (suc place) count)) (let e : suc place + count ≡ place + suc count = omega arith in e) (rest (min low (level_there numbers place)) from (suc place) (more_gap numbers from place low gap b.0) (λ z. absurd (some_left count b.1 z)))
 
-covers_between : (numbers : List ℕ) (from to : ℕ) → from ≤ to → Covers numbers from to (points_between numbers from to)
+pub covers_between : (numbers : List ℕ) (from to : ℕ) → from ≤ to → Covers numbers from to (points_between numbers from to)
 covers_between numbers from to le = subst (λ (t : ℕ). Covers numbers from t (points_between numbers from to)) (let e : from + (to - from) ≡ to = omega arith in e) (covers_from numbers (to - from) 4294967295 from from (no_gap numbers from) (λ e. refl))
 
 covers_both : (numbers : List ℕ) (xs ys : List Point) (a b c : ℕ) → Covers numbers a b xs → Covers numbers b c ys → Covers numbers a c (xs ++ ys)

@@ -166,32 +166,50 @@ fn points_by_stretches(
         requires { (length numbers.now ≤ 536870913) × AreCuts ends.now (length numbers.now + 1) × AreSums numbers.now ends.now tallies.now × (c < length ends.now) × (c ≤ length tallies.now) }
         ensures { IfOk result (λ v. v.items ≡ points_between numbers.entry.now (start_of ends.entry.now c) (number_at ends.entry.now c)) }
     { points_in(alloc, numbers, ends, tallies, c as usize) };
-    crew.by_chunks(ends.len(), numbers.len() / 2, &make)
+    crew.by_chunks(ends.len(), numbers.len() / 4, &make)
+}
+
+// The points of a left parse and of its end, by one worker.
+fn points_alone(alloc: Global, numbers: &[u16]) -> Result<Vec<Point>, AllocError>
+    requires few { length numbers.now ≤ 536870913 }
+    ensures { IfOk result (λ v. Covers numbers.now 0 (suc (length numbers.now)) v.items) }
+{
+    points_of(alloc, numbers, 0, numbers.len() + 1, Tally::NONE)
+}
+
+// The same by the stretches that end where `ends` says.
+fn points_cut(crew: &impl Passes, numbers: &[u16], ends: &[usize]) -> Result<Vec<Point>, AllocError>
+    requires few { length numbers.now ≤ 536870913 }
+    requires cuts { AreCuts ends.now (length numbers.now + 1) }
+    requires count { length ends.now < 4611686018427387904 }
+    ensures { IfOk result (λ v. Covers numbers.now 0 (suc (length numbers.now)) v.items) }
+{
+    let tallies = tallies_all(crew, numbers, ends, ends.len().saturating_sub(1))?;
+    points_by_stretches(crew, numbers, ends, tallies.as_slice())
 }
 
 // So many stretches for each worker, since some have more points than others.
 const SHARES: usize = 2;
 
-// How long a stretch is: all places for one worker, and else so that each worker has some, and never shorter than a chunk.
+// How long a stretch is: so that each worker has some, and never shorter than a chunk.
 fn stretch_size(places: usize, plan: &Plan) -> usize
-    requires { 0 < places }
     ensures { 0 < result }
 {
-    if plan.workers == 1 {
-        return places;
-    }
     let shares = plan.workers as usize * SHARES;
     (places / shares).max(plan.chunk as usize)
 }
 
-/// The points of a left parse and of its end.
+/// The points of a left parse and of its end, whose last one is the end. They cover the places for every crew, and may differ, since a
+/// stretch of the places ends with a point. The only refusal is that memory is out.
 pub(crate) fn points_all(crew: &impl Passes, numbers: &[u16]) -> Result<Vec<Point>, AllocError>
     requires few { length numbers.now ≤ 536870913 }
     ensures { IfOk result (λ v. Covers numbers.now 0 (suc (length numbers.now)) v.items) }
 {
     let places = numbers.len() + 1;
-    let ends = even_cuts(crew.alloc(), places, stretch_size(places, &crew.plan()))?;
-    let ends = ends.as_slice();
-    let tallies = tallies_all(crew, numbers, ends, ends.len().saturating_sub(1))?;
-    points_by_stretches(crew, numbers, ends, tallies.as_slice())
+    let plan = crew.plan();
+    if plan.workers == 1 || places <= plan.chunk as usize {
+        return points_alone(crew.alloc(), numbers);
+    }
+    let ends = even_cuts(crew.alloc(), places, stretch_size(places, &plan))?;
+    points_cut(crew, numbers, ends.as_slice())
 }

@@ -21,7 +21,8 @@ pub(crate) struct Tally {
 }
 
 impl Tally {
-    const NONE: Tally = Tally { kids: 0, reads: 0 };
+    /// That of no production.
+    pub(crate) const NONE: Tally = Tally { kids: 0, reads: 0 };
 }
 
 /// The same with one production more.
