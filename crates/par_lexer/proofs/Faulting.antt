@@ -34,14 +34,14 @@ meant lexeme terminal large = elim lexeme [
 ]
 
 -- the place behind pieces
-abbrev pub end_from : ℕ → List (List ℕ) → ℕ
+abbrev end_from : ℕ → List (List ℕ) → ℕ
 end_from at ps = fold (λ a p. a + length p) at ps
 
-pub end_at_least : (at : ℕ) (ps : List (List ℕ)) → at ≤ end_from at ps
+end_at_least : (at : ℕ) (ps : List (List ℕ)) → at ≤ end_from at ps
 end_at_least at [] = omega arith
 end_at_least at (p ∷ ps) = let e : at + length p ≤ end_from (at + length p) ps = end_at_least (at + length p) ps in omega arith
 
-pub end_is : (at : ℕ) (ps : List (List ℕ)) → end_from at ps ≡ at + length (flat_map (λ l. l) ps)
+end_is : (at : ℕ) (ps : List (List ℕ)) → end_from at ps ≡ at + length (flat_map (λ l. l) ps)
 end_is at [] = omega arith
 end_is at (p ∷ ps) =
     let e : end_from (at + length p) ps ≡ at + length p + length (flat_map (λ l. l) ps) = end_is (at + length p) ps in
@@ -68,7 +68,7 @@ answer_of number at ls whole = answer (find is_large (tokens_from number at ls))
 abbrev Found : ℕ → ℕ → List (List ℕ) → Type 0
 Found number at ps = answer_of number at (take_while is_lexeme ps) (end_from at ps) ≡ first_fault at ps
 
-pub has_byte : (p : List ℕ) → is_so_far p ≡ true → 0 < length p
+has_byte : (p : List ℕ) → is_so_far p ≡ true → 0 < length p
 has_byte [] h = let no : ⊥ = cc in absurd no
 has_byte (c ∷ cs) h = omega arith
 
@@ -92,7 +92,7 @@ not_below n = grind (arith, nat_tests)
 below : (a b : ℕ) → a < b → nat_lt a b ≡ true
 below a b h = grind (arith, nat_tests)
 
-pub found : (ps : List (List ℕ)) (number at : ℕ) → ArePieces ps → Found number at ps
+found : (ps : List (List ℕ)) (number at : ℕ) → ArePieces ps → Found number at ps
 found [] number at h = ap (λ b. cond b (Some (101, at)) None) (not_below at)
 found (p ∷ ps) number at h = go (found ps number (at + length p) h.1) (found ps (number + 1) (at + length p) h.1) (is_lexeme p) refl (terminal_of p) refl (is_number p && nat_lt 2147483647 (decimal_value p)) refl
   where
@@ -136,7 +136,7 @@ few_from (p ∷ ps) at h =
     let byte : 0 < length p = has_byte p h.0 in
     omega arith
 
-pub end_of_text : (text : List ℕ) → end_from 0 (pieces text) ≡ length text
+end_of_text : (text : List ℕ) → end_from 0 (pieces text) ≡ length text
 end_of_text text =
     let all : length (flat_map (λ l. l) (pieces text)) ≡ length text = ap length (pieces_joined text) in
     let end : end_from 0 (pieces text) ≡ 0 + length (flat_map (λ l. l) (pieces text)) = end_is 0 (pieces text) in

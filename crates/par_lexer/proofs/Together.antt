@@ -97,12 +97,12 @@ module _ (text : List ℕ) (bytes : Bytes text) where
 
   -- ---- at the end of the text
 
-  pub behind_capped : (x : ℕ) → told_behind text (min x (length text)) ≡ told_behind text x
+  behind_capped : (x : ℕ) → told_behind text (min x (length text)) ≡ told_behind text x
   behind_capped x = dite (dec_le x (length text))
       (λ within. ap (told_behind text) (min-eq_left within))
       (λ over. behind_end text bytes (min x (length text)) (omega arith) ∙ sym (behind_end text bytes x (omega arith)))
 
-  pub before_capped : (x : ℕ) → state_before text (min x (length text)) ≡ state_before text x
+  before_capped : (x : ℕ) → state_before text (min x (length text)) ≡ state_before text x
   before_capped x = dite (dec_le x (length text))
       (λ within. ap (state_before text) (min-eq_left within))
       (λ over. ap (run lexer 0) (take_all (min x (length text)) text (omega arith) ∙ sym (take_all x text (omega arith))))
@@ -121,6 +121,3 @@ module _ (text : List ℕ) (bytes : Bytes text) where
     where
       capped : (x s n from to : ℕ) → from ≡ min x n → to ≡ from + min (n - from) s → to ≡ min (x + s) n
       capped x s n from to is ends = omega arith
-
-  pub whole_told : (rows : List Piece) → rows ++ told_behind text (length text) ≡ told_behind text 0 → rows ≡ told_behind text 0
-  whole_told rows all = sym (append-nil rows) ∙ (ap (λ (l : List Piece). rows ++ l) (sym (behind_end text bytes (length text) (omega arith))) ∙ all)
