@@ -70,7 +70,7 @@ fn keys(crew: &impl Passes, columns: &Columns<'_>) -> Result<Vec<u64>, AllocErro
 {
     let at = |k: u32| -> u64
         ensures { result ≡ key_of columns.entry.now k }
-    { key(columns, k) };
+    { key(*columns, k) };
     crew.tabulate(columns.kinds.len() as u32, &at)
 }
 
