@@ -19,6 +19,7 @@ const WORKERS: [&str; 3] = ["1", "4", "64"];
 const CHUNKS: [&str; 3] = ["1", "7", "65536"];
 
 /// What a call of the program has written.
+#[derive(Drop)]
 struct Written {
     out: MemoryOut,
     notes: MemoryOut,
