@@ -1,5 +1,5 @@
 //! Runs the example programs that standard input names, one a line, and prints how each ends; those in a folder `refused` are to be built.
-//! Each is compiled under nine plans, and the last line counts those that came to one answer under all.
+//! Those in the folder `worked` are compiled under nine plans too, and the last line counts those that came to one answer under all.
 #![tactic(auto)]
 
 use chunk_seats::OpenGate;
@@ -79,7 +79,7 @@ fn command(name: &str) -> &'static str {
 
 fn main(rt: HostRuntime) -> io::Result<()> {
     let alloc = rt.alloc();
-    let mut programs = 0_u64;
+    let mut worked = 0_u64;
     let mut same = 0_u64;
     for line in rt.lines(alloc) {
         let name = line?;
@@ -93,8 +93,10 @@ fn main(rt: HostRuntime) -> io::Result<()> {
         print!(rt; "{name}: ")?;
         io::writer(&rt).write_all(written.out.written())?;
         io::writer(&rt).write_all(written.notes.written())?;
-        programs = programs.saturating_add(1);
-        same = same.saturating_add(u64::from(is_one_answer(&rt, alloc, source.as_slice())?));
+        if name.starts_with("worked/") {
+            worked = worked.saturating_add(1);
+            same = same.saturating_add(u64::from(is_one_answer(&rt, alloc, source.as_slice())?));
+        }
     }
-    println!(rt; "The same file or refusal under each of nine plans: {same} of {programs}")
+    println!(rt; "The same file or refusal under each of nine plans: {same} of {worked}")
 }
