@@ -11,6 +11,7 @@ use super::*;
 use crate::dealt::copies;
 use chunk_seats::{OpenGate, Plan};
 use std::alloc::{AllocError, Global};
+use std::marker::Brand;
 use std::process::Abort;
 use std::test::*;
 use std::thread::Threads;
@@ -112,6 +113,18 @@ pub(crate) fn lowest(crew: &impl Passes, xs: &[u64]) -> Result<u64, AllocError>
     crew.least(keys.as_slice())
 }
 
+// The least of what a function of places gives.
+pub(crate) fn lowest_of(crew: &impl Passes, xs: &[u64]) -> Result<u64, AllocError>
+    requires len { length xs.now < 2 ^ 32 }
+    ensures { IfOk result (λ m. m ≡ fold min (2 ^ 64 - 1) (map (λ k. slice_index xs.now k % 1024) (range_with_len 0 (length xs.now)))) }
+{
+    let low = |k: u32| -> u64
+        requires { k < length xs.now }
+        ensures { result ≡ slice_index xs.entry.now k % 1024 }
+    { xs[k as usize] % 1024 };
+    crew.least_of::<_, Brand>(xs.len() as u32, &low)
+}
+
 // Where each piece begins, from the pieces' lengths.
 pub(crate) fn starts(crew: &impl Passes, xs: &[u64]) -> Result<Vec<u64>, AllocError>
     requires len { length xs.now < 2 ^ 62 }
@@ -199,6 +212,8 @@ fn calls<R: Threads + Abort + Sync>(
     let high = at_least(&crew, &[5, 1, 7, 3], 4)?;
     assert!(rt; high.as_slice() == [5, 7].as_slice());
     assert_eq!(rt; lowest(&crew, &[1026, 5, 2047])?, 2);
+    assert_eq!(rt; lowest_of(&crew, &[1026, 5, 2047])?, 2);
+    assert_eq!(rt; lowest_of(&crew, &[])?, u64::MAX);
     let begins = starts(&crew, &[])?;
     assert!(rt; begins.as_slice() == [0].as_slice());
     let places = places_from(&crew, &[5, 1, 7, 3], 4)?;

@@ -8,9 +8,8 @@ use crate::chunk::{chunk_slice, chunk_start, count_chunks};
 use crate::crew::by_chunks;
 use crate::dealt::fill_by_number;
 use crate::marked::push_if;
-use chunk_seats::{Gate, Plan};
+use chunk_seats::{Crew, Gate, Plan};
 use std::alloc::{AllocError, Global};
-use std::thread::Threads;
 
 // The places of the items for which the function says true, right behind what is in the list. The first item's place is `from`.
 fn find_onto<T: Copy, F: Fn(T) -> bool>(
@@ -63,10 +62,9 @@ fn find_chunk<T: Copy, F: Fn(T) -> bool>(
 }
 
 // All that one worker does alone: the chunks in turn, each right behind the one before it.
-fn find_in_turn<T: Copy, F: Fn(T) -> bool, G: Gate>(
-    alloc: Global,
+fn find_in_turn<C: Crew, T: Copy, F: Fn(T) -> bool>(
+    crew: &C,
     plan: &Plan,
-    gate: &G,
     items: &[T],
     f: &F,
 ) -> Result<Vec<u32>, AllocError>
@@ -74,22 +72,19 @@ fn find_in_turn<T: Copy, F: Fn(T) -> bool, G: Gate>(
     requires callable { All (F.pre f.now) items.now }
     ensures { IfOk result (λ v. (g : T → Bool) → All (λ x. (r : Bool) → F.post f.now x r → r ≡ g x) items.now → v.items ≡ marked (range_with_len 0 (length items.now)) (map g items.now)) }
 {
-    let mut out = Vec::with_capacity(alloc, items.len())?;
+    let mut out = Vec::with_capacity(crew.alloc(), items.len())?;
     for c in 0..count_chunks(items.len(), plan.chunk) as u64 {
-        gate.after_claim(0, Some(c));
+        crew.gate().after_claim(0, Some(c));
         find_chunk_onto(items, plan.chunk, c, f, &mut out)?;
     }
-    gate.after_claim(0, None);
+    crew.gate().after_claim(0, None);
     Ok(out)
 }
 
-/// The places of the items for which the function says true, in order. They are the same for every plan and gate. The only refusal is
+/// The places of the items for which the function says true, in order. They are the same for every crew. The only refusal is
 /// that memory is out.
-pub(crate) fn positions<T: Copy + Sync, F: Fn(T) -> bool + Sync, G: Gate, R: Threads + Sync>(
-    rt: &R,
-    alloc: Global,
-    plan: &Plan,
-    gate: &G,
+pub(crate) fn positions<C: Crew, T: Copy + Sync, F: Fn(T) -> bool + Sync>(
+    crew: &C,
     items: &[T],
     f: &F,
 ) -> Result<Vec<u32>, AllocError>
@@ -97,25 +92,24 @@ pub(crate) fn positions<T: Copy + Sync, F: Fn(T) -> bool + Sync, G: Gate, R: Thr
     requires callable { All (F.pre f.now) items.now }
     ensures { IfOk result (λ v. (g : T → Bool) → All (λ x. (r : Bool) → F.post f.now x r → r ≡ g x) items.now → v.items ≡ marked (range_with_len 0 (length items.now)) (map g items.now)) }
 {
+    let plan = crew.plan();
     let size = plan.chunk;
     if plan.workers == 1 || items.len() <= size as usize {
-        return find_in_turn(alloc, plan, gate, items, f);
+        return find_in_turn(crew, &plan, items, f);
     }
+    let alloc = crew.alloc();
     let make = |c: u64| -> Result<Vec<u32>, AllocError>
         requires { (length items.now ≤ 2 ^ 32) × All (F.pre f.now) items.now }
         ensures { IfOk result (λ v. (g : T → Bool) → All (λ x. (r : Bool) → F.post f.entry.now x r → r ≡ g x) items.entry.now → v.items ≡ marked (chunk_of size (range_with_len 0 (length items.entry.now)) c) (chunk_of size (map g items.entry.now) c)) }
     { find_chunk(alloc, items, size, c, f) };
     let count = count_chunks(items.len(), size);
-    by_chunks(rt, alloc, plan, gate, count, items.len(), &make)
+    by_chunks(crew, count, items.len(), &make)
 }
 
 /// What the function gives for each number below `count`, in order. It is called once for each number. Where it computes, the list is the
-/// same for every plan and gate. The only refusal is that memory is out.
-pub(crate) fn tabulate<U: Copy + Send + Sync, F: Fn(u32) -> U + Sync, G: Gate, R: Threads + Sync>(
-    rt: &R,
-    alloc: Global,
-    plan: &Plan,
-    gate: &G,
+/// same for every crew. The only refusal is that memory is out.
+pub(crate) fn tabulate<C: Crew, U: Copy + Send + Sync, F: Fn(u32) -> U + Sync>(
+    crew: &C,
     count: u32,
     f: &F,
 ) -> Result<Vec<U>, AllocError>
@@ -128,5 +122,5 @@ pub(crate) fn tabulate<U: Copy + Send + Sync, F: Fn(u32) -> U + Sync, G: Gate, R
         requires { (k < 2 ^ 32) × F.pre f.now k }
         ensures { F.post f.entry.now k result }
     { f(k as u32) };
-    fill_by_number(rt, alloc, plan, gate, count as usize, &at)
+    fill_by_number(crew, count as usize, &at)
 }

@@ -3,7 +3,7 @@
 
 mod at_places;
 mod cells;
-mod crew;
+mod team;
 mod views;
 mod work;
 
