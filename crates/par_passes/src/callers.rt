@@ -1,5 +1,5 @@
 //! How each pass is called, and how little is then left to prove.
-ghost use Rattle.std.specs.Prelude.{◌≡◌, ◌+◌, ◌-◌, ◌%◌, ◌/◌, ◌<◌, ◌≤◌, ◌^◌, length, leb, map, filter, flat_map, replicate, fold, min, slice_index, slice_index_or, All, IfOk, IsPermutation, IsSorted};
+ghost use Rattle.std.specs.Prelude.{◌≡◌, ◌==◌, ◌+◌, ◌-◌, ◌%◌, ◌/◌, ◌<◌, ◌≤◌, ◌^◌, length, leb, map, filter, flat_map, replicate, fold, min, slice_index, slice_index_or, All, IfOk, IsPermutation, IsSorted};
 ghost use Rattle.std.specs.List.{range_with_len};
 ghost use Rattle.std.specs.Ordering.{nat_cmp};
 ghost use Rattle.word_monoid.specs.Folds.{prefixes};
@@ -89,6 +89,18 @@ pub(crate) fn places_from(crew: &impl Passes, xs: &[u64], low: u64) -> Result<Ve
     ensures { IfOk result (λ v. v.items ≡ filter (λ k. leb low (slice_index xs.now k)) (range_with_len 0 (length xs.now))) }
 {
     crew.positions(xs, &|x: u64| low <= x)
+}
+
+// The numbers of which a function says yes.
+pub(crate) fn multiples(crew: &impl Passes, count: u32, of: u32) -> Result<Vec<u32>, AllocError>
+    requires { 0 < of }
+    ensures { IfOk result (λ v. v.items ≡ filter (λ k. k % of == 0) (range_with_len 0 count)) }
+{
+    let is_multiple = |k: u32| -> bool
+        requires { 0 < of }
+        ensures { result ≡ (k % of == 0) }
+    { k % of == 0 };
+    crew.numbers_where(count, &is_multiple)
 }
 
 // By how much each item but the first is greater than the one before it: a table by a closure over a list that it borrows.
@@ -218,6 +230,9 @@ fn calls<R: Threads + Abort + Sync>(
     assert!(rt; begins.as_slice() == [0].as_slice());
     let places = places_from(&crew, &[5, 1, 7, 3], 4)?;
     assert!(rt; places.as_slice() == [0, 2].as_slice());
+    let threes = multiples(&crew, 10, 3)?;
+    assert!(rt; threes.as_slice() == [0, 3, 6, 9].as_slice());
+    assert!(rt; multiples(&crew, 0, 3)?.is_empty());
     let up = rises(&crew, &[5, 1, 7, 9])?;
     assert!(rt; up.as_slice() == [0, 6, 2].as_slice());
     let table = vec![in alloc; 3u32; 1024]?;

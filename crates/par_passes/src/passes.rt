@@ -11,7 +11,7 @@ use crate::crew::by_chunks;
 use crate::each::{map, map_lifted};
 use crate::fewest::{least, least_of};
 use crate::marked::compact;
-use crate::numbered::{positions, tabulate};
+use crate::numbered::{numbers_where, positions, tabulate};
 use crate::order::sorted;
 use crate::places::gather;
 use chunk_seats::{Crew, Gate, Workers};
@@ -75,6 +75,18 @@ pub trait Passes: Crew {
         ensures { IfOk result (λ v. (g : T → Bool) → All (λ x. (r : Bool) → F.post f.now x r → r ≡ g x) items.now → v.items ≡ marked (range_with_len 0 (length items.now)) (map g items.now)) }
     {
         positions(self, items, f)
+    }
+
+    /// The numbers below `count` for which the function says true, in order.
+    final fn numbers_where<F: Fn(u32) -> bool + Sync>(
+        &self,
+        count: u32,
+        f: &F,
+    ) -> Result<Vec<u32>, AllocError>
+        requires callable { All (F.pre f.now) (range_with_len 0 count) }
+        ensures { IfOk result (λ v. (g : ℕ → Bool) → All (λ k. (r : Bool) → F.post f.now k r → r ≡ g k) (range_with_len 0 count) → v.items ≡ filter g (range_with_len 0 count)) }
+    {
+        numbers_where(self, count, f)
     }
 
     /// What the function gives for each number below `count`, in order. It is called once for each.

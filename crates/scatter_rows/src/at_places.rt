@@ -4,6 +4,7 @@ ghost use Rattle.std.specs.Result.{OnOk};
 ghost use Rattle.scatter_rows.specs.Scattered.{AreDistinct, IsScattered};
 ghost use Rattle.scatter_rows.specs.Worked.{AreFit, IsCut};
 
+use crate::alone::scatter_alone;
 use crate::cells::Cells;
 use crate::team::{Team, run};
 use crate::views::Pairs;
@@ -66,7 +67,8 @@ fn scatter_into<C: Crew, N: Pairs + Send + Sync>(
 /// The list of `len` cells in which each place holds its value, and every other cell 0. It is the same for every crew.
 ///
 /// Workers claim chunks of the pairs of a place and a value, and put the values into the words of one shared table, where a word
-/// is 0 before its value and the value plus 1 after it. There are at most as many workers as chunks, and one starts no thread.
+/// is 0 before its value and the value plus 1 after it. There are at most as many workers as chunks. One worker writes the values right
+/// into the list.
 /// The crew's gate is told of each claim by the worker's number, which is below that of the workers, and once of its end.
 pub fn scatter(
     crew: &impl Crew,
@@ -80,8 +82,13 @@ pub fn scatter(
     requires small { All (λ v. v < 2 ^ 64 - 1) values.now }
     ensures { IfOk result (λ v. IsScattered places.now values.now len v.items) }
 {
+    let plan = crew.plan();
     let mut cells = Vec::from_elem(crew.alloc(), 0u64, len.max(1) as usize)?;
-    scatter_into::<_, Brand>(crew, places, values, cells.as_mut_slice())?;
+    if plan.workers == 1 || places.len() <= plan.chunk as usize {
+        scatter_alone(crew, plan.chunk, places, values, cells.as_mut_slice());
+    } else {
+        scatter_into::<_, Brand>(crew, places, values, cells.as_mut_slice())?;
+    }
     cells.truncate(len as usize);
     Ok(cells)
 }

@@ -1,6 +1,7 @@
 //! Values that several workers write at places of one shared table of words.
 #![tactic(auto)]
 
+mod alone;
 mod at_places;
 mod cells;
 mod team;
