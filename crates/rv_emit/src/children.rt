@@ -1,6 +1,5 @@
 //! Children that are put at their parents.
-ghost use Rattle.std.specs.Prelude.{◌≡◌, ℕ, ◌+◌, ◌<◌, ◌≤◌, ◌^◌, Bool, All, length, map, slice_index_or, IfOk};
-ghost use Rattle.std.specs.List.{range_with_len, filter};
+ghost use Rattle.std.specs.Prelude.{◌≡◌, ◌+◌, ◌<◌, ◌≤◌, ◌^◌, All, length, map, slice_index_or, IfOk};
 ghost use Rattle.scatter_rows.specs.Scattered.{AreDistinct};
 ghost use Rattle.rv_select.specs.Firsts.{is_first as is_first_child, firsts, ArePut};
 ghost use Rattle.rv_emit.specs.Put.{first_places};
@@ -8,14 +7,6 @@ ghost use Rattle.rv_emit.specs.Put.{first_places};
 use par_passes::Passes;
 use rv_select::number;
 use std::alloc::AllocError;
-
-/// The rows that are marked.
-pub(crate) fn marked_rows(crew: &impl Passes, marks: &[bool]) -> Result<Vec<u32>, AllocError>
-    requires rows { length marks.now ≤ 2 ^ 25 }
-    ensures { IfOk result (λ v. (keep : ℕ → Bool) (n : ℕ) → marks.now ≡ map keep (range_with_len 0 n) → v.items ≡ filter keep (range_with_len 0 n)) }
-{
-    crew.positions(marks, &|mark: bool| mark)
-}
 
 /// The parents of rows.
 pub(crate) fn parents_of(
@@ -39,24 +30,15 @@ fn is_first(parents: &[u32], places: &[u32], k: u32) -> bool
     k < number(parents, k) && number(places, k) == 0
 }
 
-// Which rows are first children.
-fn first_marks(crew: &impl Passes, parents: &[u32], places: &[u32]) -> Result<Vec<bool>, AllocError>
-    requires rows { length parents.now ≤ 2 ^ 25 }
-    ensures { IfOk result (λ v. v.items ≡ map (is_first_child parents.now places.now) (range_with_len 0 (length parents.now))) }
-{
-    let at = |k: u32| -> bool
-        ensures { result ≡ is_first_child parents.entry.now places.entry.now k }
-    { is_first(parents, places, k) };
-    crew.tabulate(parents.len() as u32, &at)
-}
-
 // The rows that are first children.
 fn first_rows(crew: &impl Passes, parents: &[u32], places: &[u32]) -> Result<Vec<u32>, AllocError>
     requires rows { length parents.now ≤ 2 ^ 25 }
     ensures { IfOk result (λ v. v.items ≡ firsts parents.now places.now) }
 {
-    let marks = first_marks(crew, parents, places)?;
-    marked_rows(crew, &marks)
+    let at = |k: u32| -> bool
+        ensures { result ≡ is_first_child parents.entry.now places.entry.now k }
+    { is_first(parents, places, k) };
+    crew.numbers_where(parents.len() as u32, &at)
 }
 
 // One more than each of the numbers.

@@ -4,7 +4,7 @@ ghost use Rattle.scatter_rows.specs.Scattered.{AreDistinct};
 ghost use Rattle.rv_select.specs.Layout.{is_kept as is_kept_child, kept_from};
 ghost use Rattle.rv_emit.specs.OfColumns.{rows_of, above_of, begin_step_of, begins_of, kept_of, kept_places_of, kept_values_of, AreChildren};
 
-use crate::children::{marked_rows, parents_of};
+use crate::children::parents_of;
 use crate::functions::narrow;
 use par_passes::{Lift, Passes};
 use rv_select::{Columns, begin_step, is_kept, kept_value};
@@ -49,24 +49,15 @@ fn begins(crew: &impl Passes, columns: &Columns<'_>) -> Result<Vec<u64>, AllocEr
     crew.scan_lifted(&Greatest, &steps, &Same)
 }
 
-// Which rows are kept at their parents.
-fn kept_marks(crew: &impl Passes, columns: &Columns<'_>) -> Result<Vec<bool>, AllocError>
-    requires rows { length columns.now.kinds.now ≤ 2 ^ 25 }
-    ensures { IfOk result (λ v. v.items ≡ map (λ k. is_kept_child (above_of columns.now k) (slice_index_or columns.now.places.now k 0)) (rows_of columns.now)) }
-{
-    let at = |k: u32| -> bool
-        ensures { result ≡ is_kept_child (above_of columns.entry.now k) (slice_index_or columns.entry.now.places.now k 0) }
-    { is_kept(*columns, k) };
-    crew.tabulate(columns.kinds.len() as u32, &at)
-}
-
 // The rows that are kept at their parents.
 fn kept_rows(crew: &impl Passes, columns: &Columns<'_>) -> Result<Vec<u32>, AllocError>
     requires rows { length columns.now.kinds.now ≤ 2 ^ 25 }
     ensures { IfOk result (λ v. v.items ≡ kept_of columns.now) }
 {
-    let marks = kept_marks(crew, columns)?;
-    marked_rows(crew, &marks)
+    let at = |k: u32| -> bool
+        ensures { result ≡ is_kept_child (above_of columns.entry.now k) (slice_index_or columns.entry.now.places.now k 0) }
+    { is_kept(*columns, k) };
+    crew.numbers_where(columns.kinds.len() as u32, &at)
 }
 
 // As what rows are kept.
