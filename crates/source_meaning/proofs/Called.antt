@@ -1,14 +1,15 @@
 -- A call of a function whose frame fits.
-use Rattle.std.proofs.Common.{◌≡◌, ℕ, suc, ◌-◌, ◌<◌, ◌^◌, nat_lt, true, false, List, ◌++◌, replicate, sym, ap, ◌∙◌, arith}
+use Rattle.std.proofs.Common.{◌≡◌, ℕ, suc, ◌-◌, nat_lt, true, false, List, [], ◌∷◌, ◌++◌, map, replicate, refl, sym, ap, ◌∙◌}
 use Rattle.source_meaning.specs.Ast.{Function, Program}
 use Rattle.source_meaning.specs.Scope.{body_scope, variables_in}
 use Rattle.source_meaning.specs.Frames.{frame}
-use Rattle.source_meaning.specs.Counts.{capped}
+use Rattle.source_meaning.specs.Trees.{function_of}
+use Rattle.source_meaning.specs.declared.callees.Callee.{Callee}
 use Rattle.source_meaning.specs.Meaning.{run, ended, call_in, Table, Stopped, Deep as AtDeep}
 
--- as many variables as fit a frame are not capped
-pub variables_fit : (n : ℕ) → n < 2 ^ 32 → capped n ≡ n
-variables_fit n small = omega arith
+pub functions_of_callees : (cs : List Callee) → map (λ f. function_of f.function.now) cs ≡ map function_of (map (λ c. c.function.now) cs)
+functions_of_callees [] = refl
+functions_of_callees (c ∷ cs) = ap (λ fs. function_of c.function.now ∷ fs) (functions_of_callees cs)
 
 pub call_is : (p : Program) (turns calls fewer left : ℕ) (f : Function) (args : List ℕ) (rest : ℕ) (table : Table) → calls ≡ suc fewer → nat_lt left (frame f).bytes ≡ false → rest ≡ left - (frame f).bytes → table ≡ args ++ replicate (variables_in f.body) 0 →
     call_in p turns calls left f args ≡ ended (run (record { program = p; turns = turns; calls = call_in p turns fewer rest }) (body_scope f) table f.body)

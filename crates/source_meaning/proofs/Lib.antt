@@ -1,4 +1,5 @@
 pub mod Cut
+pub mod First
 pub mod Derived
 pub mod Parsed
 pub mod Depths
@@ -7,5 +8,7 @@ pub mod OneTree
 pub mod Named
 pub mod SameScope
 pub mod Called
+pub mod Numbered
+pub mod Laid
 pub mod Onwards
 pub mod Steps

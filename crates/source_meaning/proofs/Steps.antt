@@ -1,16 +1,18 @@
 -- What each kind of node leaves to do.
-use Rattle.std.proofs.Common.{◌≡◌, ℕ, zero, suc, ◌+◌, ◌-◌, ◌≤◌, List, [], ◌∷◌, ◌++◌, Option, Some, None, option_map, Result, Ok, Bor, slice_set, replicate, length, map, nat_lt, false, refl, sym, ap, ◌∙◌, arith}
+use Rattle.std.proofs.Common.{◌≡◌, ℕ, zero, suc, ◌+◌, ◌-◌, ◌≤◌, List, [], ◌∷◌, ◌++◌, Option, Some, None, option_map, Result, Ok, Bor, slice_set, replicate, length, map, nat_lt, false, refl, sym, ap, subst, ◌∙◌, arith}
 use Rattle.std.proofs.lemmas.List.{append_assoc, append-nil}
+use Rattle.std.specs.Global.{Box, Vec}
 use Rattle.source_meaning.specs.Ast.{Expr as ExprTree, call, unary, binary, and, or, assign, Args as ArgsTree, no_args, arg, Stmt as StmtTree, var, if_only, if_else, while, return, block, eval, stmt, Function as FunctionTree}
 use Rattle.source_meaning.specs.Operators.{unary_value, binary_value}
 use Rattle.source_meaning.specs.Scope.{Scope, function_of, behind, inner, variables_in, body_scope, no_scope}
 use Rattle.source_meaning.specs.Frames.{frame}
 use Rattle.source_meaning.specs.Meaning.{Run, gives, stops, ◌>>=◌, Table, World, Outcome, value, values, called, returned, ended, run, run_all, then_next, target, stored_in}
 use Rattle.source_meaning.specs.Trees.{expr_of, args_of, stmt_of, stmts_of}
+use Rattle.source_meaning.specs.Numbering.{next_in}
 use Rattle.source_meaning.specs.Running.{named, name_of, variable_named, scope_with, stored_numbered}
-use Rattle.source_meaning.specs.Resuming.{opened, with_table, stacked, onwards, turned, resume, leave, world_in, run_all_in, condition_of, body_of}
+use Rattle.source_meaning.specs.Resuming.{opened, with_table, stacked, onwards, turned, resume, leave, world_in, run_in, run_all_in, IsChosen, condition_of, body_of}
 use Rattle.source_meaning.specs.Weights.{expr_weight, stmt_weight, turns_weight, heaviest, call_weight, rests_weight}
-use Rattle.source_meaning.specs.Walking.{Gives, EvaluatesThen, Evaluates, Computes, Opens, Runs, RunsAll, Resumes, program_in, with_value, settled, evaluated_then, weigh_rests, weight_of_call}
+use Rattle.source_meaning.specs.Walking.{Gives, EvaluatesThen, Evaluates, Computes, Opens, Runs, RunsAll, Resumes, program_in, with_value, settled, evaluated_then, ran, weigh, weigh_rests, weight_of_call}
 use Rattle.source_meaning.specs.declared.trees.Expr.{Expr}
 use Rattle.source_meaning.specs.declared.trees.Args.{Args}
 use Rattle.source_meaning.specs.declared.trees.Stmt.{Stmt}
@@ -21,6 +23,7 @@ use Rattle.source_meaning.specs.declared.kinds.ValueType.{ValueType}
 use Rattle.source_meaning.specs.declared.names.Named.{Named}
 use Rattle.source_meaning.specs.declared.rests.OpenCall.{OpenCall}
 use Rattle.source_meaning.specs.declared.rests.Placed.{Placed}
+use Rattle.source_meaning.specs.declared.rests.Branches.{Branches}
 use Rattle.source_meaning.specs.declared.rests.PlacedAll.{PlacedAll}
 use Rattle.source_meaning.specs.declared.rests.Loop.{Loop}
 use Rattle.source_meaning.specs.declared.rests.Rests.{Rests}
@@ -38,15 +41,15 @@ pub three : (a b c k : List Rest) (x y z : Rest) → a ≡ x ∷ b → b ≡ y �
 three a b c k x y z h i j = h ∙ ap (λ l. x ∷ l) (i ∙ ap (λ l. y ∷ l) j)
 
 -- behind a statement that declares nothing of its own
-pub other_behind : (s : Stmt) (ns : List (List ℕ × ℕ)) (next count : ℕ) → ((at : ℕ) (x : _) (ty : ValueType) (e : _) → s ≡ Var at x ty e → ⊥) → count ≡ variables_in (stmt_of s) → behind (scope_with ns next) (stmt_of s) ≡ scope_with ns (next + count)
-other_behind (Var at x ty e) ns next count not is = absurd (not at x ty e refl)
-other_behind (If' at c p a) ns next count not is = ap (λ n. scope_with ns (next + n)) (sym is)
-other_behind (IfElse' at c p a q b) ns next count not is = ap (λ n. scope_with ns (next + n)) (sym is)
-other_behind (StrayElse' at p a) ns next count not is = ap (λ n. scope_with ns (next + n)) (sym is)
-other_behind (While' at c p a) ns next count not is = ap (λ n. scope_with ns (next + n)) (sym is)
-other_behind (Return' at e) ns next count not is = ap (λ n. scope_with ns (next + n)) (sym is)
-other_behind (Block at ss) ns next count not is = ap (λ n. scope_with ns (next + n)) (sym is)
-other_behind (Eval e) ns next count not is = ap (λ n. scope_with ns (next + n)) (sym is)
+pub other_behind : (s : Stmt) (ns : List (List ℕ × ℕ)) (next after : ℕ) → ((at : ℕ) (x : _) (ty : ValueType) (e : _) → s ≡ Var at x ty e → ⊥) → after ≡ next + variables_in (stmt_of s) → behind (scope_with ns next) (stmt_of s) ≡ scope_with ns after
+other_behind (Var at x ty e) ns next after not is = absurd (not at x ty e refl)
+other_behind (If' at c p a) ns next after not is = ap (λ n. scope_with ns n) (sym is)
+other_behind (IfElse' at c p a q b) ns next after not is = ap (λ n. scope_with ns n) (sym is)
+other_behind (StrayElse' at p a) ns next after not is = ap (λ n. scope_with ns n) (sym is)
+other_behind (While' at c p a) ns next after not is = ap (λ n. scope_with ns n) (sym is)
+other_behind (Return' at e) ns next after not is = ap (λ n. scope_with ns n) (sym is)
+other_behind (Block at ss) ns next after not is = ap (λ n. scope_with ns n) (sym is)
+other_behind (Eval e) ns next after not is = ap (λ n. scope_with ns n) (sym is)
 
 -- in the open call of a walker
 abbrev pub V : Walker → Table → ExprTree → Run ℕ
@@ -95,17 +98,17 @@ module _ (w : Walker) (y : Result (Unit {0}) Stop) (v : Walker) where
             (omega arith);
       }
 
-  pub argument_goes : (f : Bor (List ℕ)) (known : _) (e : ExprTree) (r : Bor Args) → EvaluatesThen w e (Argument f known r) y v →
-      Computes w f.now known.items (arg e (args_of r.now)) y v
+  pub argument_goes : (f : Bor (Vec ℕ)) (known : _) (e : ExprTree) (r : Bor Args) → EvaluatesThen w e (Argument f known r) y v →
+      Computes w f.now.items known.items (arg e (args_of r.now)) y v
   argument_goes f known e r h =
       record {
         went = went_as _ _ _ _ y v h.went
-            (onwards_after (V w w.call.table.items e >>= λ x u. Vs w u (args_of r.now) >>= λ xs z. gives (x ∷ xs) z) (λ vs t. Called w f.now (known.items ++ vs) t) (Next w)
-            ∙ onwards_after (V w w.call.table.items e) (λ x u. Vs w u (args_of r.now) >>= λ xs z. gives (x ∷ xs) z) (λ vs t. onwards (Called w f.now (known.items ++ vs) t) (Next w))
+            (onwards_after (V w w.call.table.items e >>= λ x u. Vs w u (args_of r.now) >>= λ xs z. gives (x ∷ xs) z) (λ vs t. Called w f.now.items (known.items ++ vs) t) (Next w)
+            ∙ onwards_after (V w w.call.table.items e) (λ x u. Vs w u (args_of r.now) >>= λ xs z. gives (x ∷ xs) z) (λ vs t. onwards (Called w f.now.items (known.items ++ vs) t) (Next w))
             ∙ onwards_alike (V w w.call.table.items e) _ _ (λ x u.
-            onwards_after (Vs w u (args_of r.now)) (λ xs z. gives (x ∷ xs) z) (λ vs t. onwards (Called w f.now (known.items ++ vs) t) (Next w))
-            ∙ onwards_alike (Vs w u (args_of r.now)) _ _ (λ vs t. ap (λ l. onwards (Called w f.now l t) (Next w)) (sym (append_assoc known.items (x ∷ []) vs)))
-            ∙ sym (onwards_after (Vs w u (args_of r.now)) (λ vs t. Called w f.now ((known.items ++ x ∷ []) ++ vs) t) (Next w))))
+            onwards_after (Vs w u (args_of r.now)) (λ xs z. gives (x ∷ xs) z) (λ vs t. onwards (Called w f.now.items (known.items ++ vs) t) (Next w))
+            ∙ onwards_alike (Vs w u (args_of r.now)) _ _ (λ vs t. ap (λ l. onwards (Called w f.now.items l t) (Next w)) (sym (append_assoc known.items (x ∷ []) vs)))
+            ∙ sym (onwards_after (Vs w u (args_of r.now)) (λ vs t. Called w f.now.items ((known.items ++ x ∷ []) ++ vs) t) (Next w))))
             (omega arith);
       }
 
@@ -121,24 +124,32 @@ module _ (w : Walker) (y : Result (Unit {0}) Stop) (v : Walker) where
   pub var_goes : (at next : ℕ) (x : List ℕ) (ty : ValueType) (e : ExprTree) → EvaluatesThen w e (Initialize next) y v → Runs w next (var at x ty e) y v
   var_goes at next x ty e h = record { went = went_as _ _ _ _ y v h.went (after_value next e (λ z u. gives None (slice_set u next z)) (Initialize next) (λ z t. refl)) (omega arith) }
 
-  pub if_goes : (at : ℕ) (e : ExprTree) (q : Placed) → EvaluatesThen w e (If q) y v → Runs w q.next (if_only at e (stmt_of q.statement.now)) y v
-  if_goes at e q h = record { went = went_as _ _ _ _ y v h.went (after_value q.next e _ (If q) (λ z t. refl)) (omega arith) }
+  pub if_goes : (at : ℕ) (e : ExprTree) (q : Placed) → EvaluatesThen w e (If q) y v → Runs w (next_in q.numbering.now) (if_only at e (stmt_of q.statement.now)) y v
+  if_goes at e q h = record { went = went_as _ _ _ _ y v h.went (after_value (next_in q.numbering.now) e _ (If q) (λ z t. refl)) (omega arith) }
 
-  pub if_else_goes : (at : ℕ) (e : ExprTree) (q r : Placed) (a b : StmtTree) → stmt_of q.statement.now ≡ a → stmt_of r.statement.now ≡ b → r.next ≡ q.next + variables_in a →
-      EvaluatesThen w e (IfElse q r) y v → Runs w q.next (if_else at e a b) y v
-  if_else_goes at e q r a b is_a is_b is h =
-      record {
-        went = went_as _ _ _ _ y v h.went
-            (after_value q.next e (λ z t. elim z [ zero ↦ R w (q.next + variables_in a) t b | suc j ↦ R w q.next t a ]) (IfElse q r) (λ z t i. settled w (elim z [ zero ↦ R w (sym is i) t (sym is_b i) | suc j ↦ R w q.next t (sym is_a i) ])))
-            (omega (arith, ap (stmt_weight (weight_of_call w) w.turns) is_a, ap (stmt_weight (weight_of_call w) w.turns) is_b));
-      }
+  pub if_else_goes : (at : ℕ) (e : ExprTree) (q : Branches) → EvaluatesThen w e (IfElse q) y v → Runs w (next_in q.numbering.now) (if_else at e (stmt_of q.then.now) (stmt_of q.otherwise.now)) y v
+  if_else_goes at e q h = record { went = went_as _ _ _ _ y v h.went (after_value (next_in q.numbering.now) e _ (IfElse q) (λ z t. refl)) (omega arith) }
 
-  pub while_goes : (at : ℕ) (l : Loop) → l.turns ≡ w.turns → EvaluatesThen w (expr_of l.condition.now) (Turn l) y v → Runs w l.body.next (while at (expr_of l.condition.now) (stmt_of l.body.statement.now)) y v
+  pub chosen_goes : (q : Branches) (p : Placed) → IsChosen q w.value p → Runs w (next_in p.numbering.now) (stmt_of p.statement.now) y v → Resumes w (IfElse q ∷ stacked w.rests) y v
+  chosen_goes q p is h = record { went = went_as _ _ _ _ y v h.went (same w.value is) (bound w.value is) }
+    where
+      T : ℕ → StmtTree → Run (Option ℕ)
+      T n s = run_in (program_in w) w.turns (opened w.call) n s
+
+      same : (x : ℕ) → IsChosen q x p → settled w (elim x [ zero ↦ T (next_in q.numbering.now + variables_in (stmt_of q.then.now)) (stmt_of q.otherwise.now) | suc n ↦ T (next_in q.numbering.now) (stmt_of q.then.now) ]) ≡ ran w (next_in p.numbering.now) (stmt_of p.statement.now)
+      same zero (there, begins) = λ i. ran w (sym begins i) (stmt_of (sym there i))
+      same (suc n) (there, begins) = λ i. ran w (sym begins i) (stmt_of (sym there i))
+
+      bound : (x : ℕ) → IsChosen q x p → stmt_weight (weight_of_call w) w.turns (stmt_of p.statement.now) + weigh w ≤ weigh_rests w (IfElse q ∷ stacked w.rests)
+      bound zero (there, begins) = omega (arith, ap (λ s. stmt_weight (weight_of_call w) w.turns (stmt_of s)) there)
+      bound (suc n) (there, begins) = omega (arith, ap (λ s. stmt_weight (weight_of_call w) w.turns (stmt_of s)) there)
+
+  pub while_goes : (at : ℕ) (l : Loop) → l.turns ≡ w.turns → EvaluatesThen w (expr_of l.condition.now) (Turn l) y v → Runs w (next_in l.body.numbering.now) (while at (expr_of l.condition.now) (stmt_of l.body.statement.now)) y v
   while_goes at l is h =
       record {
         went = went_as _ _ _ _ y v h.went
             (ap (λ q. settled w q) (loop_turned C B w.turns w.call.table.items)
-            ∙ after_value l.body.next (expr_of l.condition.now) (λ x u. turned C B w.turns x u) (Turn l) (λ x t i. settled w (turned C B (sym is i) x t)))
+            ∙ after_value (next_in l.body.numbering.now) (expr_of l.condition.now) (λ x u. turned C B w.turns x u) (Turn l) (λ x t i. settled w (turned C B (sym is i) x t)))
             (omega (arith, ap (turns_weight (weight_of_call w) w.turns (expr_weight (weight_of_call w) w.turns (expr_of l.condition.now)) (stmt_weight (weight_of_call w) w.turns (stmt_of l.body.statement.now))) is));
       }
     where
@@ -154,10 +165,10 @@ module _ (w : Walker) (y : Result (Unit {0}) Stop) (v : Walker) where
   pub eval_goes : (next : ℕ) (e : ExprTree) → EvaluatesThen w e Discard y v → Runs w next (eval e) y v
   eval_goes next e h = record { went = went_as _ _ _ _ y v h.went (after_value next e (λ x u. gives None u) Discard (λ z t. refl)) (omega arith) }
 
-  pub block_goes : (at : ℕ) (q : PlacedAll) (r : Rests) → stacked r ≡ RunAll q ∷ stacked w.rests → Runs w q.next (block at (stmts_of q.statements.now)) (Ok tt) (record w { rests = r })
+  pub block_goes : (at : ℕ) (q : PlacedAll) (r : Rests) → stacked r ≡ RunAll q ∷ stacked w.rests → Runs w (next_in q.numbering.now) (block at (stmts_of q.statements.now)) (Ok tt) (record w { rests = r })
   block_goes at q r is = record {
     went = (
-      ap (λ m. settled w m) (run_all_alike (world_in (program_in w) w.turns (opened w.call)) (stmts_of q.statements.now) (inner (scope_with (opened w.call).names q.next)) (scope_with (opened w.call).names q.next) w.call.table.items (refl, refl))
+      ap (λ m. settled w m) (run_all_alike (world_in (program_in w) w.turns (opened w.call)) (stmts_of q.statements.now) (inner (scope_with (opened w.call).names (next_in q.numbering.now))) (scope_with (opened w.call).names (next_in q.numbering.now)) w.call.table.items (refl, refl))
           ∙ ap (λ k. resume (program_in w) w.turns k (opened w.call) w.value) (sym is),
       omega (arith, ap (λ k. weigh_rests w k) is),
     );
@@ -186,33 +197,33 @@ module _ (w : Walker) (y : Result (Unit {0}) Stop) (v : Walker) where
   }
 
   -- a call of a function whose frame fits
-  pub open_goes : (f : FunctionTree) (args : List ℕ) (inside : OpenCall) (r : Rests) (n : ℕ) →
+  pub open_goes : (f : FunctionTree) (args : List ℕ) (inside : OpenCall) (kept : Box OpenCall) (r : Rests) (n : ℕ) →
       w.call.calls ≡ suc inside.calls → nat_lt w.call.left (frame f).bytes ≡ false → inside.left ≡ w.call.left - (frame f).bytes →
       inside.table.items ≡ args ++ replicate (variables_in f.body) 0 → named inside.names ≡ map name_of (body_scope f).variables → n ≡ length f.params →
-      stacked r ≡ Caller w.call ∷ stacked w.rests → ((calls : ℕ) → stmt_weight calls w.turns f.body ≤ heaviest calls w.turns w.functions.now) →
+      kept.value ≡ w.call → stacked r ≡ Caller kept ∷ stacked w.rests → ((calls : ℕ) → stmt_weight calls w.turns f.body ≤ heaviest calls w.turns w.functions.now) →
       Runs (record w { call = inside; rests = r }) n f.body y v → Opens w f args y v
-  open_goes f args inside r n some fits left filled names count is light h = record {
+  open_goes f args inside kept r n some fits left filled names count same is light h = record {
     went = went_as _ _ _ _ y v h.went
         (ap (λ z. with_value w (returned z w.call.table.items)) (call_is (program_in w) w.turns w.call.calls inside.calls w.call.left f args inside.left inside.table.items some fits left filled)
         ∙ enters (run U (body_scope f) inside.table.items f.body)
         ∙ ap (λ k. onwards (run U (body_scope f) inside.table.items f.body) (λ s t. elim s [ None ↦ resume (program_in w) w.turns k (with_table (opened inside) t) 0 | Some x ↦ leave (program_in w) w.turns k x ])) (sym is)
         ∙ ap (λ q. onwards q (Settle (record w { call = inside; rests = r }))) (run_alike U f.body (body_scope f) (scope_with (named inside.names) n) inside.table.items (sym names ∙ sym (names_named (named inside.names)), let e : (body_scope f).next ≡ n = omega (arith, params_next no_scope f.params, count) in e)))
-        (omega (arith, ap (call_weight w.functions.now w.turns) some, light (call_weight w.functions.now w.turns inside.calls), ap (rests_weight w.functions.now w.turns inside.calls) is));
+        (omega (arith, ap (call_weight w.functions.now w.turns) some, light (call_weight w.functions.now w.turns inside.calls), ap (rests_weight w.functions.now w.turns inside.calls) is, ap (λ c. rests_weight w.functions.now w.turns c.calls (stacked w.rests)) same));
   }
     where
       U : World
       U = world_in (program_in w) w.turns (opened inside)
 
-      enters : (q : Run (Option ℕ)) → with_value w (returned (ended q) w.call.table.items) ≡ onwards q (λ s t. elim s [ None ↦ resume (program_in w) w.turns (Caller w.call ∷ stacked w.rests) (with_table (opened inside) t) 0 | Some x ↦ leave (program_in w) w.turns (Caller w.call ∷ stacked w.rests) x ])
-      enters (gives None t) = refl
-      enters (gives (Some x) t) = refl
+      enters : (q : Run (Option ℕ)) → with_value w (returned (ended q) w.call.table.items) ≡ onwards q (λ s t. elim s [ None ↦ resume (program_in w) w.turns (Caller kept ∷ stacked w.rests) (with_table (opened inside) t) 0 | Some x ↦ leave (program_in w) w.turns (Caller kept ∷ stacked w.rests) x ])
+      enters (gives None t) = ap (λ c. resume (program_in w) w.turns (stacked w.rests) (opened c) 0) (sym same)
+      enters (gives (Some x) t) = ap (λ c. resume (program_in w) w.turns (stacked w.rests) (opened c) x) (sym same)
       enters (stops e) = refl
 
   -- statements, one after the other
-  pub next_goes : (s : StmtTree) (next : ℕ) (q : PlacedAll) (r : Rests) → behind (scope_with (opened w.call).names next) s ≡ scope_with (opened w.call).names q.next → stacked r ≡ RunAll q ∷ stacked w.rests →
-      Runs (record w { rests = r }) next s y v → RunsAll w next (stmt s (stmts_of q.statements.now)) y v
-  next_goes s next q r scope is h = record {
-    went = went_as _ _ _ _ y v h.went
+  pub next_goes : (s : StmtTree) (next m : ℕ) (q : PlacedAll) (r : Rests) → m ≡ next → behind (scope_with (opened w.call).names next) s ≡ scope_with (opened w.call).names (next_in q.numbering.now) → stacked r ≡ RunAll q ∷ stacked w.rests →
+      Runs (record w { rests = r }) m s y v → RunsAll w next (stmt s (stmts_of q.statements.now)) y v
+  next_goes s next m q r same scope is h = record {
+    went = went_as _ _ _ _ y v (subst (λ k. Runs (record w { rests = r }) k s y v) same h).went
         (onwards_after (R w next w.call.table.items s) (λ x u. then_next x (λ z. Ra (behind (scope_with (opened w.call).names next) s) z) u) (Settle w)
         ∙ onwards_alike (R w next w.call.table.items s) _ _ (λ x u. after_one x u ∙ ap (λ k. elim x [ None ↦ resume (program_in w) w.turns k (with_table (opened w.call) u) 0 | Some z ↦ leave (program_in w) w.turns k z ]) (sym is)))
         (omega (arith, ap (λ k. weigh_rests w k) is));
@@ -225,16 +236,16 @@ module _ (w : Walker) (y : Result (Unit {0}) Stop) (v : Walker) where
       after_one None u = ap (λ sc. onwards (Ra sc u) (Settle w)) scope
       after_one (Some z) u = refl
 
-  pub declaration_goes : (at next : ℕ) (x : List ℕ) (ty : ValueType) (e : ExprTree) (nm : Named) (q : PlacedAll) (r : Rests) → nm.name.now ≡ x → nm.number ≡ next → q.next ≡ next + 1 →
-      stacked r ≡ Declare nm ∷ (RunAll q ∷ (Forget ∷ stacked w.rests)) → EvaluatesThen (record w { rests = r }) e (Initialize next) y v → RunsAll w next (stmt (var at x ty e) (stmts_of q.statements.now)) y v
+  pub declaration_goes : (at next : ℕ) (x : List ℕ) (ty : ValueType) (e : ExprTree) (nm : Named) (q : PlacedAll) (r : Rests) → nm.name.now ≡ x → nm.number ≡ next → next_in q.numbering.now ≡ next + 1 →
+      stacked r ≡ Declare nm ∷ (RunAll q ∷ (Forget ∷ stacked w.rests)) → EvaluatesThen (record w { rests = r }) e (Initialize nm.number) y v → RunsAll w next (stmt (var at x ty e) (stmts_of q.statements.now)) y v
   declaration_goes at next x ty e nm q r is_x is_number more is h = record {
-    went = went_as _ _ _ _ y v h.went
+    went = went_as _ _ _ _ y v (subst (λ k. EvaluatesThen (record w { rests = r }) e (Initialize k) y v) is_number h).went
         (onwards_after (R w next w.call.table.items (var at x ty e)) (λ s u. then_next s (λ z. Ra (behind (scope_with (opened w.call).names next) (var at x ty e)) z) u) (Settle w)
         ∙ onwards_after (value W (scope_with (opened w.call).names next) w.call.table.items e) (λ z u. gives None (slice_set u next z)) _
         ∙ ap (λ m. onwards m (λ z u. onwards (Ra (behind (scope_with (opened w.call).names next) (var at x ty e)) (slice_set u next z)) (Settle w))) (value_alike W e (scope_with (opened w.call).names next) (scope_with (opened w.call).names 0) w.call.table.items refl)
         ∙ onwards_alike (V w w.call.table.items e) _ _ (λ z u.
-        ap (λ m. onwards m (Settle w)) (run_all_alike W (stmts_of q.statements.now) (behind (scope_with (opened w.call).names next) (var at x ty e)) (scope_with ((nm.name.now, nm.number) ∷ (opened w.call).names) q.next) (slice_set u next z) ((λ i. (sym is_x i, sym is_number i) ∷ map name_of (map variable_named (opened w.call).names)), sym more))
-        ∙ onwards_alike (run_all_in (program_in w) w.turns (record (with_table (opened w.call) (slice_set u next z)) { names = (nm.name.now, nm.number) ∷ (opened w.call).names }) q.next (stmts_of q.statements.now)) _ _ (λ s t. forgets s t)
+        ap (λ m. onwards m (Settle w)) (run_all_alike W (stmts_of q.statements.now) (behind (scope_with (opened w.call).names next) (var at x ty e)) (scope_with ((nm.name.now, nm.number) ∷ (opened w.call).names) (next_in q.numbering.now)) (slice_set u next z) ((λ i. (sym is_x i, sym is_number i) ∷ map name_of (map variable_named (opened w.call).names)), sym more))
+        ∙ onwards_alike (run_all_in (program_in w) w.turns (record (with_table (opened w.call) (slice_set u next z)) { names = (nm.name.now, nm.number) ∷ (opened w.call).names }) (next_in q.numbering.now) (stmts_of q.statements.now)) _ _ (λ s t. forgets s t)
         ∙ ap (λ k. resume (program_in w) w.turns k (with_table (opened w.call) (slice_set u next z)) 0) (sym is)))
         (omega (arith, ap (λ k. weigh_rests w k) is));
   }
@@ -254,6 +265,6 @@ module _ (w : Walker) (y : Result (Unit {0}) Stop) (v : Walker) where
   again_goes l h = record {
     went = went_as _ _ _ _ y v h.went
         (ap (λ q. settled w q) (loop_turned (condition_of (program_in w) w.turns (opened w.call) l) (body_of (program_in w) w.turns (opened w.call) l) l.turns w.call.table.items)
-        ∙ after_value l.body.next (expr_of l.condition.now) (λ x u. turned (condition_of (program_in w) w.turns (opened w.call) l) (body_of (program_in w) w.turns (opened w.call) l) l.turns x u) (Turn l) (λ x t. refl))
+        ∙ after_value (next_in l.body.numbering.now) (expr_of l.condition.now) (λ x u. turned (condition_of (program_in w) w.turns (opened w.call) l) (body_of (program_in w) w.turns (opened w.call) l) l.turns x u) (Turn l) (λ x t. refl))
         (omega arith);
   }

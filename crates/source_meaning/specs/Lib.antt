@@ -3,6 +3,7 @@ pub mod Ast
 pub mod Trees
 pub mod Grammar
 pub mod Scope
+pub mod First
 pub mod Shape
 pub mod Typing
 pub mod Operators
@@ -12,6 +13,8 @@ pub mod Running
 pub mod Resuming
 pub mod Weights
 pub mod Parts
+pub mod Numbering
+pub mod Laying
 pub mod Walking
 pub mod Meaning
 pub mod Rows

@@ -1,12 +1,15 @@
 -- What the steps that are left to do make of the value that was computed last, in the words of the meaning.
-use Rattle.std.specs.Prelude.{ℕ, zero, suc, List, [], ◌∷◌, ◌++◌, Option, Some, None, reverse, slice_set}
+use Rattle.std.specs.Prelude.{◌≡◌, ℕ, zero, suc, ◌+◌, List, [], ◌∷◌, ◌++◌, Option, Some, None, reverse, slice_set}
 use Rattle.source_meaning.specs.Ast.{Expr as ExprTree, Args as ArgsTree, Stmt as StmtTree, Stmts as StmtsTree, Program}
-use Rattle.source_meaning.specs.Scope.{function_of}
+use Rattle.source_meaning.specs.Scope.{function_of, variables_in}
 use Rattle.source_meaning.specs.Meaning.{Run, gives, stops, ◌>>=◌, Table, World, Outcome, Ended, Stopped, More, value, values, called, then_next, loop, run, run_all, call_in}
 use Rattle.source_meaning.specs.Operators.{unary_value, binary_value}
 use Rattle.source_meaning.specs.Trees.{expr_of, args_of, stmt_of, stmts_of}
+use Rattle.source_meaning.specs.Numbering.{next_in}
 use Rattle.source_meaning.specs.Running.{named, outer, scope_with, stored_numbered}
 use Rattle.source_meaning.specs.declared.rests.OpenCall.{OpenCall}
+use Rattle.source_meaning.specs.declared.rests.Placed.{Placed}
+use Rattle.source_meaning.specs.declared.rests.Branches.{Branches}
 use Rattle.source_meaning.specs.declared.rests.Loop.{Loop}
 use Rattle.source_meaning.specs.declared.rests.Rests.{Rests}
 use Rattle.source_meaning.specs.declared.rests.Rest.{Rest}
@@ -35,6 +38,11 @@ abbrev pub onwards : {A : Type 0} → Run A → (A → Table → Outcome) → Ou
 onwards (gives x t) next = next x t
 onwards (stops s) next = Stopped s
 
+-- the statement of an if or its else, where the condition has a value
+abbrev pub IsChosen : Branches → ℕ → Placed → Type 0
+IsChosen q zero p = (p.statement.now ≡ q.otherwise.now) × (next_in p.numbering.now ≡ next_in q.numbering.now + variables_in (stmt_of q.then.now))
+IsChosen q (suc n) p = (p.statement.now ≡ q.then.now) × (next_in p.numbering.now ≡ next_in q.numbering.now)
+
 -- a loop whose condition has a value: what is left of its turns
 abbrev pub turned : (Table → Run ℕ) → (Table → Run (Option ℕ)) → ℕ → ℕ → Table → Run (Option ℕ)
 turned condition body zero x u = elim x [ zero ↦ gives None u | suc k ↦ stops More ]
@@ -58,10 +66,10 @@ module _ (p : Program) (turns : ℕ) where
   run_all_in o next ss = run_all (world_in o) (scope_with o.names next) o.table ss
 
   abbrev pub condition_of : Opened → Loop → Table → Run ℕ
-  condition_of o l t = value (world_in o) (scope_with o.names l.body.next) t (expr_of l.condition.now)
+  condition_of o l t = value (world_in o) (scope_with o.names (next_in l.body.numbering.now)) t (expr_of l.condition.now)
 
   abbrev pub body_of : Opened → Loop → Table → Run (Option ℕ)
-  body_of o l t = run (world_in o) (scope_with o.names l.body.next) t (stmt_of l.body.statement.now)
+  body_of o l t = run (world_in o) (scope_with o.names (next_in l.body.numbering.now)) t (stmt_of l.body.statement.now)
 
   abbrev mutual
     -- goes on with a value. Behind a statement that didn't return it is 0.
@@ -74,21 +82,21 @@ module _ (p : Program) (turns : ℕ) where
     resume (And b ∷ k) o x = onwards (elim x [ zero ↦ gives zero o.table | suc n ↦ value_in o (expr_of b.now) ]) (λ y t. resume k (with_table o t) y)
     resume (Or b ∷ k) o x = onwards (elim x [ zero ↦ value_in o (expr_of b.now) | suc n ↦ gives (suc n) o.table ]) (λ y t. resume k (with_table o t) y)
     resume (Store n ∷ k) o x = resume k (with_table o (stored_numbered n x o.table)) x
-    resume (Argument f known es ∷ k) o x = onwards (call_with o f.now (known.items ++ x ∷ []) (args_of es.now)) (λ y t. resume k (with_table o t) y)
+    resume (Argument f known es ∷ k) o x = onwards (call_with o f.now.items (known.items ++ x ∷ []) (args_of es.now)) (λ y t. resume k (with_table o t) y)
     resume (Initialize n ∷ k) o x = resume k (with_table o (slice_set o.table n x)) 0
     resume (Discard ∷ k) o x = resume k o 0
-    resume (RunAll q ∷ k) o x = onwards (run_all_in o q.next (stmts_of q.statements.now)) (λ r t. elim r [ None ↦ resume k (with_table o t) 0 | Some v ↦ leave k v ])
+    resume (RunAll q ∷ k) o x = onwards (run_all_in o (next_in q.numbering.now) (stmts_of q.statements.now)) (λ r t. elim r [ None ↦ resume k (with_table o t) 0 | Some v ↦ leave k v ])
     resume (Declare v ∷ k) o x = resume k (record o { names = (v.name.now, v.number) ∷ o.names }) x
     resume (Forget ∷ k) o x = resume k (record o { names = outer o.names }) x
-    resume (If q ∷ k) o x = onwards (elim x [ zero ↦ gives None o.table | suc n ↦ run_in o q.next (stmt_of q.statement.now) ]) (λ r t. elim r [ None ↦ resume k (with_table o t) 0 | Some v ↦ leave k v ])
-    resume (IfElse q r ∷ k) o x = onwards (elim x [ zero ↦ run_in o r.next (stmt_of r.statement.now) | suc n ↦ run_in o q.next (stmt_of q.statement.now) ]) (λ r t. elim r [ None ↦ resume k (with_table o t) 0 | Some v ↦ leave k v ])
+    resume (If q ∷ k) o x = onwards (elim x [ zero ↦ gives None o.table | suc n ↦ run_in o (next_in q.numbering.now) (stmt_of q.statement.now) ]) (λ r t. elim r [ None ↦ resume k (with_table o t) 0 | Some v ↦ leave k v ])
+    resume (IfElse q ∷ k) o x = onwards (elim x [ zero ↦ run_in o (next_in q.numbering.now + variables_in (stmt_of q.then.now)) (stmt_of q.otherwise.now) | suc n ↦ run_in o (next_in q.numbering.now) (stmt_of q.then.now) ]) (λ r t. elim r [ None ↦ resume k (with_table o t) 0 | Some v ↦ leave k v ])
     resume (Turn l ∷ k) o x = onwards (turned (condition_of o l) (body_of o l) l.turns x o.table) (λ r t. elim r [ None ↦ resume k (with_table o t) 0 | Some v ↦ leave k v ])
     resume (Again l ∷ k) o x = onwards (loop (condition_of o l) (body_of o l) l.turns o.table) (λ r t. elim r [ None ↦ resume k (with_table o t) 0 | Some v ↦ leave k v ])
     resume (Return ∷ k) o x = leave k x
-    resume (Caller c ∷ k) o x = resume k (opened c) x
+    resume (Caller c ∷ k) o x = resume k (opened c.value) x
 
     -- returns a value from the open call
     pub leave : List Rest → ℕ → Outcome
     leave [] x = Ended x
-    leave (Caller c ∷ k) x = resume k (opened c) x
+    leave (Caller c ∷ k) x = resume k (opened c.value) x
     leave (r ∷ k) x = leave k x

@@ -3,7 +3,7 @@ use Rattle.std.specs.Prelude.{◌≡◌, ℕ, suc, ◌+◌, ◌<◌, List, ◌�
 use Rattle.source_meaning.specs.Ast.{Expr as ExprTree, Args as ArgsTree, Stmt as StmtTree, Stmts as StmtsTree, Function as FunctionTree, Program}
 use Rattle.source_meaning.specs.Meaning.{Deep as AtDeep, More as AtMore, Run, Outcome, Stopped, returned, call_in}
 use Rattle.source_meaning.specs.Trees.{function_of}
-use Rattle.source_meaning.specs.Resuming.{opened, with_table, stacked, onwards, resume, leave, value_in, call_with, run_in, run_all_in}
+use Rattle.source_meaning.specs.Resuming.{Opened, opened, with_table, stacked, onwards, resume, leave, value_in, call_with, run_in, run_all_in}
 use Rattle.source_meaning.specs.Weights.{expr_weight, args_weight, stmt_weight, stmts_weight, call_weight, rests_weight}
 use Rattle.source_meaning.specs.declared.rests.Rest.{Rest}
 use Rattle.source_meaning.specs.declared.interpreter.Stop.{Stop}
@@ -11,7 +11,7 @@ use Rattle.source_meaning.specs.declared.interpreter.Stop.TheVariants.{Deep, Mor
 use Rattle.source_meaning.specs.declared.interpreter.Walker.{Walker}
 
 abbrev pub program_in : Walker → Program
-program_in w = map function_of w.functions.now
+program_in w = map (λ f. function_of f.function.now) w.functions.now
 
 -- what the steps that are left come to, with a value
 abbrev pub given : Walker → ℕ → Outcome
@@ -97,3 +97,6 @@ pub record Resumes (w : Walker) (k : List Rest) (y : Result (Unit {0}) Stop) (v 
 
 pub record Departs (w : Walker) (y : Result (Unit {0}) Stop) (v : Walker) : Type 0 where
   pub went : Went (departed w) (suc (weigh w)) y v
+
+pub record GoesBack (w : Walker) (o : Opened) (y : Result (Unit {0}) Stop) (v : Walker) : Type 0 where
+  pub went : Went (resume (program_in w) w.turns (stacked w.rests) o w.value) (suc (rests_weight w.functions.now w.turns o.calls (stacked w.rests))) y v

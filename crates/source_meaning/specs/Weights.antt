@@ -2,7 +2,7 @@
 use Rattle.std.specs.Prelude.{ℕ, zero, suc, ◌+◌, max, List, [], ◌∷◌}
 use Rattle.source_meaning.specs.Ast.{Expr, num, truth, name, call, unary, binary, and, or, assign, Args, no_args, arg, Stmt, var, if_only, if_else, stray_else, while, return, block, eval, Stmts, no_stmts, stmt}
 use Rattle.source_meaning.specs.Trees.{expr_of, args_of, stmt_of, stmts_of}
-use Rattle.source_meaning.specs.declared.trees.Function.{Function}
+use Rattle.source_meaning.specs.declared.callees.Callee.{Callee}
 use Rattle.source_meaning.specs.declared.rests.Rest.{Rest}
 use Rattle.source_meaning.specs.declared.rests.Rest.TheVariants.{Evaluate, Unary, Right, Binary, And, Or, Store, Argument, Initialize, Discard, RunAll, Declare, Forget, If, IfElse, Turn, Again, Return, Caller}
 
@@ -44,9 +44,9 @@ module _ (calls turns : ℕ) where
     stmts_weight no_stmts = 1
     stmts_weight (stmt s ss) = stmt_weight s + (stmts_weight ss + 3)
 
-  abbrev pub heaviest : List Function → ℕ
+  abbrev pub heaviest : List Callee → ℕ
   heaviest [] = 0
-  heaviest (f ∷ fs) = max (stmt_weight (stmt_of f.body)) (heaviest fs)
+  heaviest (f ∷ fs) = max (stmt_weight (stmt_of f.function.now.body)) (heaviest fs)
 
   abbrev pub rest_weight : Rest → ℕ
   rest_weight (Evaluate e) = expr_weight (expr_of e.now)
@@ -63,13 +63,13 @@ module _ (calls turns : ℕ) where
   rest_weight (Declare v) = 0
   rest_weight Forget = 0
   rest_weight (If q) = stmt_weight (stmt_of q.statement.now)
-  rest_weight (IfElse q r) = stmt_weight (stmt_of q.statement.now) + stmt_weight (stmt_of r.statement.now)
+  rest_weight (IfElse q) = stmt_weight (stmt_of q.then.now) + stmt_weight (stmt_of q.otherwise.now)
   rest_weight (Turn l) = turns_weight (expr_weight (expr_of l.condition.now)) (stmt_weight (stmt_of l.body.statement.now)) l.turns
   rest_weight (Again l) = expr_weight (expr_of l.condition.now) + (turns_weight (expr_weight (expr_of l.condition.now)) (stmt_weight (stmt_of l.body.statement.now)) l.turns + 2)
   rest_weight Return = 0
   rest_weight (Caller c) = 0
 
-module _ (fs : List Function) (turns : ℕ) where
+module _ (fs : List Callee) (turns : ℕ) where
   -- a call, where at most n calls may be opened
   abbrev pub call_weight : ℕ → ℕ
   call_weight zero = 0
@@ -77,7 +77,7 @@ module _ (fs : List Function) (turns : ℕ) where
 
   -- how many calls may be opened behind a step, where it is done with n
   abbrev pub calls_behind : Rest → ℕ → ℕ
-  calls_behind (Caller c) n = c.calls
+  calls_behind (Caller c) n = c.value.calls
   calls_behind r n = n
 
   -- the steps that are left, where at most n calls may be opened

@@ -1,6 +1,6 @@
 // How much of the stack a call takes. The counts stop at the greatest u32, with which no frame fits any stack.
 
-ghost use Rattle.std.specs.Prelude.{◌≡◌, ◌<◌, ◌-◌, ◌+◌, ◌^◌, ◌∷◌, suc, max, nat_lt, true, false, OnOk, IfOk, MatchOption};
+ghost use Rattle.std.specs.Prelude.{◌≡◌, ◌<◌, ◌-◌, ◌+◌, ◌^◌, ◌∷◌, suc, min, max, nat_lt, true, false, OnOk, IfOk, MatchOption};
 ghost use Rattle.source_meaning.specs.Frames.{slots, stmt_slots, frame, frame_bytes, frame_for};
 ghost use Rattle.source_meaning.specs.Scope.{variables_in};
 ghost use Rattle.source_meaning.specs.Trees.{expr_of, stmt_of, function_of};
@@ -126,6 +126,7 @@ fn used<'a>(parts: &mut Parts<'a>, part: Part<'a>) -> Result<u32, AllocError>
                 Ok(0)
             }
         },
+        Part::Join { .. } => Ok(0),
     }
 }
 
@@ -180,6 +181,7 @@ fn declared<'a>(parts: &mut Parts<'a>, part: Part<'a>) -> Result<u32, AllocError
                 Ok(0)
             }
         },
+        Part::Join { .. } => Ok(0),
     }
 }
 
@@ -213,8 +215,16 @@ fn bytes_for(used: u32, locals: u64) -> u64
     bytes_of_words(1 + used.min(11) + locals + used.saturating_sub(11))
 }
 
+/// The bytes of a function's frame, where the body declares so many variables.
+pub(crate) fn frame_of(alloc: Global, f: &Function, variables: u32) -> Result<u64, AllocError>
+    ensures { variables ≡ capped (variables_in (stmt_of f.now.body)) → IfOk result (λ bytes. min bytes (2 ^ 32) ≡ min (frame (function_of f.now)).bytes (2 ^ 32)) }
+{
+    let params = u32::try_from(f.params.len()).unwrap_or(u32::MAX);
+    Ok(bytes_for(slots_of(alloc, &f.body)?, params as u64 + variables as u64))
+}
+
 /// What a frame of so many bytes leaves of the stack.
-fn rest_behind(left: u32, bytes: u64) -> Option<u32>
+pub(crate) fn rest_behind(left: u32, bytes: u64) -> Option<u32>
     ensures { MatchOption result (nat_lt left bytes ≡ true) (λ rest. (nat_lt left bytes ≡ false) × (rest ≡ left - bytes)) }
 {
     if (left as u64) < bytes {
@@ -222,14 +232,4 @@ fn rest_behind(left: u32, bytes: u64) -> Option<u32>
     } else {
         Some((left as u64 - bytes) as u32)
     }
-}
-
-/// What a call of a function leaves of so many bytes of the stack, or None where its frame doesn't fit.
-pub(crate) fn left_behind(alloc: Global, left: u32, f: &Function) -> Result<Option<u32>, AllocError>
-    ensures { IfOk result (λ answer. MatchOption answer (nat_lt left (frame (function_of f.now)).bytes ≡ true) (λ rest. (nat_lt left (frame (function_of f.now)).bytes ≡ false) × (rest ≡ left - (frame (function_of f.now)).bytes) × (variables_in (stmt_of f.now.body) < 2 ^ 32))) }
-{
-    let params = u32::try_from(f.params.len()).unwrap_or(u32::MAX);
-    let locals = params as u64 + variables_of(alloc, &f.body)? as u64;
-    let bytes = bytes_for(slots_of(alloc, &f.body)?, locals);
-    Ok(rest_behind(left, bytes))
 }

@@ -5,16 +5,18 @@ ghost use Rattle.source_meaning.specs.Scope.{variable_of, function_of as functio
 ghost use Rattle.source_meaning.specs.Meaning.{meaning, call_in, value_in, target as target_of, Outcome as Ending};
 ghost use Rattle.source_meaning.specs.Trees.{expr_of, args_of, stmt_of, stmts_of, function_of, program_of};
 ghost use Rattle.source_meaning.specs.Running.{CallsTo, told, value_numbered, stored_numbered, named, scope_with};
-ghost use Rattle.source_meaning.specs.Resuming.{stacked};
+ghost use Rattle.source_meaning.specs.Resuming.{opened, stacked};
+ghost use Rattle.source_meaning.specs.Numbering.{next_in};
 ghost use Rattle.source_meaning.specs.Weights.{stmt_weight, heaviest};
-ghost use Rattle.source_meaning.specs.Walking.{program_in, meant, Gives, EvaluatesThen, Evaluates, Computes, Opens, Runs, RunsAll, Resumes, Departs};
-ghost use Rattle.source_meaning.specs.declared.rests.Rest.TheVariants.{Turn, Caller};
+ghost use Rattle.source_meaning.specs.Walking.{program_in, meant, Gives, EvaluatesThen, Evaluates, Computes, Opens, Runs, RunsAll, Resumes, Departs, GoesBack};
+ghost use Rattle.source_meaning.specs.declared.rests.Rest.TheVariants.{IfElse, Turn};
 
-use crate::frames::{left_behind, variables_of};
+use crate::callees::{Callee, callees_of};
 use crate::names::{Named, Names};
+use crate::numbering::{next_number, parts_of};
 use crate::operators::{apply_binary, apply_unary};
-use crate::rests::{Loop, OpenCall, Placed, PlacedAll, Rest, Rests};
-use crate::trees::{Args, Expr, Function, Program, Stmt, Stmts};
+use crate::rests::{Branches, Loop, OpenCall, Placed, PlacedAll, Rest, Rests};
+use crate::trees::{Args, Expr, Program, Stmt, Stmts};
 use std::alloc::{AllocError, AllocFailed, Global};
 use std::mem;
 
@@ -92,7 +94,7 @@ fn fill(table: &mut Vec<u32>, count: u32) -> Result<(), AllocError>
 /// Where the walk of a program stands.
 #[derive(Drop)]
 pub(crate) struct Walker<'a> {
-    functions: &'a [Function],
+    functions: &'a [Callee<'a>],
     /// How many turns each loop makes at most.
     turns: u64,
     call: OpenCall<'a>,
@@ -104,12 +106,12 @@ pub(crate) struct Walker<'a> {
 
 impl<'a> Walker<'a> {
     /// The first function of a name.
-    fn function(&self, name: &[u8]) -> Option<&'a Function>
-        ensures first { option_map (λ f. function_of f.now) result ≡ function_named (map function_of self.now.functions.now) name.now }
-        ensures light { (calls : ℕ) → MatchOption result (Unit {0}) (λ f. stmt_weight calls self.now.turns (stmt_of f.now.body) ≤ heaviest calls self.now.turns self.now.functions.now) }
+    fn function(&self, name: &[u8]) -> Option<&'a Callee<'a>>
+        ensures first { option_map (λ f. function_of f.now.function.now) result ≡ function_named (program_in self.now) name.now }
+        ensures light { (calls : ℕ) → MatchOption result (Unit {0}) (λ f. stmt_weight calls self.now.turns (stmt_of f.now.function.now.body) ≤ heaviest calls self.now.turns self.now.functions.now) }
     {
         for f in self.functions {
-            if f.name.as_slice() == name {
+            if f.function.name.as_slice() == name {
                 return Some(f);
             }
         }
@@ -179,8 +181,8 @@ impl<'a> Walker<'a> {
     }
 
     /// Computes the arguments of a call that are left behind those whose values are known, and calls.
-    fn arguments(&mut self, name: &'a [u8], values: Vec<u32>, args: &'a Args) -> Result<(), Stop>
-        ensures { Computes self.old name.now values.items (args_of args.now) result self.new }
+    fn arguments(&mut self, name: &'a Vec<u8>, values: Vec<u32>, args: &'a Args) -> Result<(), Stop>
+        ensures { Computes self.old name.now.items values.items (args_of args.now) result self.new }
     {
         match args {
             Args::Done => match self.function(name) {
@@ -195,21 +197,20 @@ impl<'a> Walker<'a> {
     }
 
     /// Opens a call of a function. A frame that doesn't fit the stack is Deep, one call too many is More.
-    fn open(&mut self, f: &'a Function, args: Vec<u32>) -> Result<(), Stop>
-        requires light { (calls : ℕ) → stmt_weight calls self.old.turns (stmt_of f.now.body) ≤ heaviest calls self.old.turns self.old.functions.now }
-        ensures { Opens self.old (function_of f.now) args.items result self.new }
+    fn open(&mut self, f: &'a Callee<'a>, args: Vec<u32>) -> Result<(), Stop>
+        requires light { (calls : ℕ) → stmt_weight calls self.old.turns (stmt_of f.now.function.now.body) ≤ heaviest calls self.old.turns self.old.functions.now }
+        ensures { Opens self.old (function_of f.now.function.now) args.items result self.new }
     {
-        let Some(left) = left_behind(self.alloc, self.call.left, f)? else {
+        let Some(left) = f.left_behind(self.call.left) else {
             return Err(Stop::Deep);
         };
         if self.call.calls == 0 {
             return Err(Stop::More);
         }
         let mut names = Names::new(self.alloc);
-        names.declare_all(&f.params)?;
+        names.declare_all(&f.function.params)?;
         let mut table = args;
-        let variables = variables_of(self.alloc, &f.body)?;
-        fill(&mut table, variables)?;
+        fill(&mut table, f.variables)?;
         let inner = OpenCall {
             calls: self.call.calls - 1,
             left,
@@ -217,20 +218,20 @@ impl<'a> Walker<'a> {
             table,
         };
         let outer = mem::replace(&mut self.call, inner);
-        self.rests.push(Rest::Caller(outer))?;
+        self.rests.push(Rest::Caller(Box::new(self.alloc, outer)?))?;
         self.run(Placed {
-            statement: &f.body,
-            next: f.params.len() as u32,
+            statement: &f.function.body,
+            numbering: &f.numbering,
         })
     }
 
     /// Runs a statement.
     fn run(&mut self, placed: Placed<'a>) -> Result<(), Stop>
-        ensures { Runs self.old placed.entry.next (stmt_of placed.entry.statement.now) result self.new }
+        ensures { Runs self.old (next_in placed.entry.numbering.now) (stmt_of placed.entry.statement.now) result self.new }
     {
-        let next = placed.next;
+        let numbering = placed.numbering;
         match placed.statement {
-            Stmt::Var { value, .. } => self.evaluate_then(value, Rest::Initialize(next)),
+            Stmt::Var { value, .. } => self.evaluate_then(value, Rest::Initialize(placed.next())),
             Stmt::If {
                 condition,
                 then,
@@ -239,7 +240,7 @@ impl<'a> Walker<'a> {
                 condition,
                 Rest::If(Placed {
                     statement: then,
-                    next,
+                    numbering,
                 }),
             ),
             Stmt::IfElse {
@@ -247,22 +248,14 @@ impl<'a> Walker<'a> {
                 then,
                 otherwise,
                 ..
-            } => {
-                let passed = variables_of(self.alloc, then)?;
-                self.evaluate_then(
-                    condition,
-                    Rest::IfElse {
-                        then: Placed {
-                            statement: then,
-                            next,
-                        },
-                        otherwise: Placed {
-                            statement: otherwise,
-                            next: next + passed,
-                        },
-                    },
-                )
-            }
+            } => self.evaluate_then(
+                condition,
+                Rest::IfElse(Branches {
+                    then,
+                    otherwise,
+                    numbering,
+                }),
+            ),
             Stmt::StrayElse { .. } => self.give(0),
             Stmt::While {
                 condition,
@@ -274,7 +267,7 @@ impl<'a> Walker<'a> {
                     condition,
                     body: Placed {
                         statement: body,
-                        next,
+                        numbering,
                     },
                     turns: self.turns,
                 }),
@@ -283,7 +276,7 @@ impl<'a> Walker<'a> {
             Stmt::Block { body, .. } => {
                 self.rests.push(Rest::RunAll(PlacedAll {
                     statements: body,
-                    next,
+                    numbering,
                 }))?;
                 Ok(())
             }
@@ -293,35 +286,42 @@ impl<'a> Walker<'a> {
 
     /// Runs statements, one after the other.
     fn run_all(&mut self, placed: PlacedAll<'a>) -> Result<(), Stop>
-        ensures { RunsAll self.old placed.entry.next (stmts_of placed.entry.statements.now) result self.new }
+        ensures { RunsAll self.old (next_in placed.entry.numbering.now) (stmts_of placed.entry.statements.now) result self.new }
     {
-        let next = placed.next;
+        let (own, others) = parts_of(placed.numbering);
         match placed.statements {
             Stmts::Empty => self.give(0),
             Stmts::Next { first, rest } => match &**first {
                 Stmt::Var { name, value, .. } => {
+                    let number = next_number(own);
                     self.rests.push(Rest::Forget)?;
                     self.rests.push(Rest::RunAll(PlacedAll {
                         statements: rest,
-                        next: next + 1,
+                        numbering: others,
                     }))?;
-                    self.rests
-                        .push(Rest::Declare(Named { name, number: next }))?;
-                    self.evaluate_then(value, Rest::Initialize(next))
+                    self.rests.push(Rest::Declare(Named { name, number }))?;
+                    self.evaluate_then(value, Rest::Initialize(number))
                 }
                 _ => {
-                    let declared = variables_of(self.alloc, first)?;
                     self.rests.push(Rest::RunAll(PlacedAll {
                         statements: rest,
-                        next: next + declared,
+                        numbering: others,
                     }))?;
                     self.run(Placed {
                         statement: first,
-                        next,
+                        numbering: own,
                     })
                 }
             },
         }
+    }
+
+    /// Runs the statement of an `if` or that of its `else`.
+    fn choose(&mut self, branches: Branches<'a>) -> Result<(), Stop>
+        ensures { Resumes self.old (IfElse branches.entry ∷ stacked self.old.rests) result self.new }
+    {
+        let placed = branches.chosen(self.value);
+        self.run(placed)
     }
 
     /// Goes round a loop, if its condition is true.
@@ -347,7 +347,7 @@ impl<'a> Walker<'a> {
     {
         match self.rests.pop() {
             None => Ok(()),
-            Some(Rest::Caller(outer)) => self.go_back(outer),
+            Some(Rest::Caller(outer)) => self.go_back(Box::into_inner(outer)),
             Some(_) => {
                 self.rests.push(Rest::Return)?;
                 Ok(())
@@ -357,7 +357,7 @@ impl<'a> Walker<'a> {
 
     /// Goes on in the call that was open before.
     fn go_back(&mut self, outer: OpenCall<'a>) -> Result<(), Stop>
-        ensures { Resumes self.old (Caller outer.entry ∷ stacked self.old.rests) result self.new }
+        ensures { GoesBack self.old (opened outer.entry) result self.new }
     {
         self.call = outer;
         Ok(())
@@ -414,17 +414,11 @@ impl<'a> Walker<'a> {
                 Ok(())
             }
             Rest::If(then) => { if value == 0 { Ok(()) } else { self.run(then) } }
-            Rest::IfElse { then, otherwise } => {
-                if value == 0 {
-                    self.run(otherwise)
-                } else {
-                    self.run(then)
-                }
-            }
+            Rest::IfElse(branches) => self.choose(branches),
             Rest::Turn(looped) => self.turn(looped),
             Rest::Again(looped) => self.evaluate_then(looped.condition, Rest::Turn(looped)),
             Rest::Return => self.leave(),
-            Rest::Caller(outer) => self.go_back(outer),
+            Rest::Caller(outer) => self.go_back(Box::into_inner(outer)),
         }
     }
 
@@ -439,10 +433,10 @@ impl<'a> Walker<'a> {
     }
 
     /// Calls a function that is the first one, and goes on to the end.
-    fn call_first(&mut self, f: &'a Function) -> Result<u32, Stop>
-        requires light { (calls : ℕ) → stmt_weight calls self.old.turns (stmt_of f.now.body) ≤ heaviest calls self.old.turns self.old.functions.now }
+    fn call_first(&mut self, f: &'a Callee<'a>) -> Result<u32, Stop>
+        requires light { (calls : ℕ) → stmt_weight calls self.old.turns (stmt_of f.now.function.now.body) ≤ heaviest calls self.old.turns self.old.functions.now }
         requires nothing_left { stacked self.old.rests ≡ [] }
-        ensures { CallsTo (call_in (program_in self.old) self.old.turns self.old.call.calls self.old.call.left (function_of f.now) []) result }
+        ensures { CallsTo (call_in (program_in self.old) self.old.turns self.old.call.calls self.old.call.left (function_of f.now.function.now) []) result }
     {
         self.open(f, Vec::new(self.alloc))?;
         self.finish()
@@ -461,13 +455,17 @@ fn outcome_of(answer: Result<u32, Stop>) -> Result<Outcome, AllocError>
     }
 }
 
-/// What a program does on a stack of so many bytes, where each loop makes at most `steps` turns and at most
-/// `steps` calls are open at once.
-pub fn walk(alloc: Global, program: &Program, steps: u64, stack: u32) -> Result<Outcome, AllocError>
-    ensures { IfOk result (λ outcome. told outcome ≡ meaning (program_of program.now) stack steps) }
+/// What a program of these functions does.
+fn walk_from_main(
+    alloc: Global,
+    callees: &[Callee<'_>],
+    steps: u64,
+    stack: u32,
+) -> Result<Outcome, AllocError>
+    ensures { IfOk result (λ outcome. told outcome ≡ meaning (map (λ f. function_of f.function.now) callees.now) stack steps) }
 {
     let mut walker = Walker {
-        functions: &program.functions,
+        functions: callees,
         turns: steps,
         call: OpenCall {
             calls: steps,
@@ -483,4 +481,13 @@ pub fn walk(alloc: Global, program: &Program, steps: u64, stack: u32) -> Result<
         Some(main) => outcome_of(walker.call_first(main)),
         None => Ok(Outcome::Ended(0)),
     }
+}
+
+/// What a program does on a stack of so many bytes, where each loop makes at most `steps` turns and at most
+/// `steps` calls are open at once.
+pub fn walk(alloc: Global, program: &Program, steps: u64, stack: u32) -> Result<Outcome, AllocError>
+    ensures { IfOk result (λ outcome. told outcome ≡ meaning (program_of program.now) stack steps) }
+{
+    let callees = callees_of(alloc, &program.functions)?;
+    walk_from_main(alloc, &callees, steps, stack)
 }

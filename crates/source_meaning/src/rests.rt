@@ -1,28 +1,83 @@
 // What is left to do where a program runs.
 
-ghost use Rattle.std.specs.Prelude.{◌+◌, ◌<◌, ◌^◌};
-ghost use Rattle.source_meaning.specs.Scope.{variables_in, variables_in_all};
+ghost use Rattle.std.specs.Prelude.{◌≡◌, ◌+◌};
+ghost use Rattle.source_meaning.specs.Scope.{variables_in};
 ghost use Rattle.source_meaning.specs.Trees.{stmt_of, stmts_of};
+ghost use Rattle.source_meaning.specs.Numbering.{numbers, numbers_all, next_in, joined};
 
 use crate::kinds::{BinaryOp, UnaryOp};
 use crate::names::{Named, Names};
+use crate::numbering::{Entry, next_number, parts_of};
 use crate::trees::{Args, Expr, Stmt, Stmts};
 use std::alloc::{AllocError, Global};
 
-/// A statement, and how many variables of its function were declared before it.
+/// A statement, with its numbering.
 #[derive(Clone, Copy)]
 pub(crate) struct Placed<'a> {
     pub(crate) statement: &'a Stmt,
-    pub(crate) next: u32,
-    ghost fits: { next + variables_in (stmt_of statement.now) < 2 ^ 32 },
+    pub(crate) numbering: &'a [Entry],
+    ghost numbered: { numbering.now ≡ numbers (next_in numbering.now) (stmt_of statement.now) },
 }
 
-/// Statements, one after the other, and how many variables were declared before them.
+impl<'a> Placed<'a> {
+    /// How many variables were declared before the statement.
+    pub(crate) fn next(&self) -> u32
+        ensures { result ≡ next_in self.now.numbering.now }
+    {
+        next_number(self.numbering)
+    }
+}
+
+/// Statements, one after the other, with their numbering.
 #[derive(Clone, Copy)]
 pub(crate) struct PlacedAll<'a> {
     pub(crate) statements: &'a Stmts,
-    pub(crate) next: u32,
-    ghost fits: { next + variables_in_all (stmts_of statements.now) < 2 ^ 32 },
+    pub(crate) numbering: &'a [Entry],
+    ghost numbered: { numbering.now ≡ numbers_all (next_in numbering.now) (stmts_of statements.now) },
+}
+
+/// The statements of an `if` and its `else`, with their numbering.
+#[derive(Clone, Copy)]
+pub(crate) struct Branches<'a> {
+    pub(crate) then: &'a Stmt,
+    pub(crate) otherwise: &'a Stmt,
+    pub(crate) numbering: &'a [Entry],
+    ghost numbered: { numbering.now ≡ joined (next_in numbering.now) (numbers (next_in numbering.now) (stmt_of then.now)) (numbers (next_in numbering.now + variables_in (stmt_of then.now)) (stmt_of otherwise.now)) },
+}
+
+impl<'a> Branches<'a> {
+    ghost use Rattle.source_meaning.specs.Resuming.{IsChosen};
+
+    /// The statement that runs where the condition is true.
+    fn then(self) -> Placed<'a>
+        ensures { (result.statement.now ≡ self.entry.then.now) × (next_in result.numbering.now ≡ next_in self.entry.numbering.now) }
+    {
+        Placed {
+            statement: self.then,
+            numbering: parts_of(self.numbering).0,
+        }
+    }
+
+    /// The statement that runs where the condition is false.
+    fn otherwise(self) -> Placed<'a>
+        ensures { (result.statement.now ≡ self.entry.otherwise.now) × (next_in result.numbering.now ≡ next_in self.entry.numbering.now + variables_in (stmt_of self.entry.then.now)) }
+    {
+        Placed {
+            statement: self.otherwise,
+            numbering: parts_of(self.numbering).1,
+        }
+    }
+
+    /// The statement that runs behind a condition of this value.
+    pub(crate) fn chosen(self, value: u32) -> Placed<'a>
+        ensures { IsChosen self.entry value result }
+    {
+        if value == 0 {
+            self.otherwise()
+        } else {
+            self.then()
+        }
+    }
 }
 
 /// A loop that may make so many more turns.
@@ -68,7 +123,7 @@ pub(crate) enum Rest<'a> {
     Store(Option<u32>),
     /// The value is the next argument of a call.
     Argument {
-        name: &'a [u8],
+        name: &'a Vec<u8>,
         values: Vec<u32>,
         rest: &'a Args,
     },
@@ -85,10 +140,7 @@ pub(crate) enum Rest<'a> {
     /// The value is the condition of an `if`.
     If(Placed<'a>),
     /// The value is the condition of an `if` with an `else`.
-    IfElse {
-        then: Placed<'a>,
-        otherwise: Placed<'a>,
-    },
+    IfElse(Branches<'a>),
     /// The value is the condition of a loop.
     Turn(Loop<'a>),
     /// Computes the condition of a loop again.
@@ -96,7 +148,7 @@ pub(crate) enum Rest<'a> {
     /// Returns the value from the call.
     Return,
     /// Goes on in the call that was open before.
-    Caller(OpenCall<'a>),
+    Caller(Box<OpenCall<'a>>),
 }
 
 /// The steps that are left to do, the next one last.

@@ -1,21 +1,15 @@
-use Rattle.std.proofs.Common.{◌≡◌, ◌+◌, ◌<◌, ◌^◌, Ok, sym, ap, ◌∙◌, refl, arith}
-use Rattle.source_meaning.specs.Scope.{variables_in}
-use Rattle.source_meaning.specs.Counts.{capped}
-use Rattle.source_meaning.specs.Trees.{stmt_of}
+use Rattle.std.proofs.Common.{Ok, sym, refl}
 use Rattle.source_meaning.proofs.Steps.{var_goes, if_goes, if_else_goes, while_goes, return_goes, eval_goes, block_goes}
 use Rattle.source_meaning.proofs.interpreter.Walker.run.Goals as goal
 
 pub returns-in-Var : goal.returns-in-Var
-returns-in-Var c = rw c.in-Var.is (var_goes _ _ _ _ _ _ _ _ c.evaluate_then.ensures)
+returns-in-Var c = rw (c.in-Var.is, sym c.next.ensures) (var_goes _ _ _ _ _ _ _ _ c.evaluate_then.ensures)
 
 pub returns-in-If : goal.returns-in-If
 returns-in-If c = rw (c.in-If.is, sym c.deref.ensures) (if_goes _ _ _ _ _ _ c.evaluate_then-in-If.ensures)
 
-pub returns-in_ok-passed-in-IfElse : goal.returns-in_ok-passed-in-IfElse
-returns-in_ok-passed-in-IfElse c =
-    let count : c.in_ok-passed-in-IfElse.passed ≡ capped (variables_in (stmt_of c.in-IfElse.then.value)) = c.in_ok-passed-in-IfElse.ensures ∙ ap (λ s. capped (variables_in (stmt_of s))) c.deref-in-IfElse.ensures in
-    let fits : c.args.placed.next + (variables_in (stmt_of c.in-IfElse.then.value) + variables_in (stmt_of c.in-IfElse.otherwise.value)) < 2 ^ 32 = rw c.in-IfElse.is at c.args.placed.fits in
-    rw c.in-IfElse.is (if_else_goes _ _ _ _ _ _ _ _ _ (ap stmt_of c.deref-in-IfElse-2.ensures) (ap stmt_of c.deref-in-IfElse-3.ensures) (omega arith) c.evaluate_then-in-IfElse.ensures)
+pub returns-in-IfElse : goal.returns-in-IfElse
+returns-in-IfElse c = rw (c.in-IfElse.is, sym c.deref-in-IfElse.ensures, sym c.deref-in-IfElse-2.ensures) (if_else_goes _ _ _ _ _ _ c.evaluate_then-in-IfElse.ensures)
 
 pub returns-in-While : goal.returns-in-While
 returns-in-While c = rw (c.in-While.is, sym c.deref-in-While.ensures) (while_goes _ _ _ _ _ refl c.evaluate_then-in-While.ensures)
