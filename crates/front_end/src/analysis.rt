@@ -1,5 +1,5 @@
 //! What is known of a source before its code is made.
-ghost use Rattle.std.specs.Prelude.{◌≡◌, ◌≤◌, length, IfOk, IfErr};
+ghost use Rattle.std.specs.Prelude.{◌≤◌, length, IfOk, IfErr};
 ghost use Rattle.grammar_file.specs.Spelling.{IsReduced};
 ghost use Rattle.llp_tables.specs.EntryTable.{AreTablesOf};
 ghost use Rattle.source_meaning.specs.Grammar.{Tree, Prog, grammar};

@@ -1,5 +1,5 @@
 -- Numbers that are chosen, one by one and chunk by chunk.
-use Rattle.std.proofs.Common.{◌≡◌, ℕ, zero, suc, ◌+◌, ◌*◌, ◌<◌, Bool, false, cond, All, List, [], ◌∷◌, ◌++◌, length, get_or, slice_get, Option, Some, None, take, map, filter, refl, sym, ap, ◌∙◌, subst, arith, add-one, suc-mul, take-add, append_assoc}
+use Rattle.std.proofs.Common.{◌≡◌, ℕ, zero, suc, ◌+◌, ◌*◌, ◌<◌, Bool, false, cond, All, List, [], ◌∷◌, ◌++◌, length, get_or, slice_get, Option, Some, None, take, map, filter, refl, sym, ap, ◌∙◌, subst, add-one, suc-mul, take-add, append_assoc}
 use Rattle.std.specs.List.{range_with_len}
 use Rattle.std.proofs.lemmas.List.{length-map}
 use Rattle.std.proofs.lemmas.List.Elements.{filter-append}

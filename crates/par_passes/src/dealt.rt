@@ -1,5 +1,5 @@
 //! A list that is filled in place with what a function gives for the number of each place. Workers fill the parts that they draw.
-ghost use Rattle.std.specs.Prelude.{◌≡◌, ℕ, ◌+◌, ◌-◌, ◌*◌, ◌<◌, ◌≤◌, ◌^◌, [], min, All, Some, None, length, take, replicate, flat_map, slice_get, vec_capacity, IfOk, IfErr};
+ghost use Rattle.std.specs.Prelude.{◌≡◌, ℕ, ◌+◌, ◌-◌, ◌<◌, ◌≤◌, ◌^◌, [], min, All, Some, None, length, take, replicate, flat_map, slice_get, vec_capacity, IfOk, IfErr};
 ghost use Rattle.std.specs.List.{range_with_len};
 ghost use Rattle.std.specs.Thread.{IsSync};
 ghost use denote.RawPtr.{Ptr};

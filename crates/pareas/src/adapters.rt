@@ -1,6 +1,6 @@
 // The real streams as ends of the program. They tell no bytes, and count their faults.
 
-ghost use Rattle.std.specs.Prelude.{◌≡◌, ℕ};
+ghost use Rattle.std.specs.Prelude.{◌≡◌};
 
 use pareas_core::{ByteIn, ByteOut, Failed};
 use std::io::{Read, Write};

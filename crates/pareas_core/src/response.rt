@@ -1,6 +1,6 @@
 // What the program answers to a command and the bytes that it read.
 
-ghost use Rattle.std.specs.Prelude.{◌≡◌, ◌++◌, IfOk, OnOk, codes};
+ghost use Rattle.std.specs.Prelude.{◌≡◌, ◌++◌, IfOk, codes};
 ghost use Rattle.command_line.specs.declared.command.Command.TheVariants.{Build, Run};
 ghost use Rattle.pareas_core.specs.declared.status.Status.TheVariants.{Limit, Refused};
 ghost use Rattle.pareas_core.specs.Output.{at_place, noted};

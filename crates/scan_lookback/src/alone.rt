@@ -1,5 +1,5 @@
 //! A scan by one worker.
-ghost use Rattle.std.specs.Prelude.{◌≡◌, ◌<◌, ◌≤◌, ◌^◌, length, IfOk, All};
+ghost use Rattle.std.specs.Prelude.{◌≡◌, ◌<◌, ◌^◌, length, IfOk, All};
 ghost use Rattle.chunk_seats.specs.Chunks.{chunk_count};
 ghost use Rattle.word_monoid.specs.Folds.{prefixes};
 ghost use Rattle.scan_lookback.specs.Cuts.{Scans};

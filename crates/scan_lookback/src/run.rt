@@ -1,6 +1,5 @@
 //! The workers of a scan.
 ghost use Rattle.std.specs.Prelude.{◌≡◌, ◌+◌, ◌<◌, ◌≤◌, ◌^◌, length, IfOk, All};
-ghost use Rattle.std.specs.Thread.{IsSync};
 ghost use Rattle.chunk_seats.specs.Claims.{fresh};
 ghost use Rattle.scan_lookback.specs.Views.{blank};
 ghost use Rattle.scan_lookback.specs.Cuts.{Scans};

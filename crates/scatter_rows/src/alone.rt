@@ -1,5 +1,5 @@
 //! A scatter by one worker, who needs no shared table.
-ghost use Rattle.std.specs.Prelude.{◌≡◌, ◌<◌, ◌≤◌, ◌^◌, length, replicate, All};
+ghost use Rattle.std.specs.Prelude.{◌≡◌, ◌<◌, ◌≤◌, length, replicate};
 ghost use Rattle.scatter_rows.specs.Scattered.{AreDistinct, IsScattered};
 ghost use Rattle.scatter_rows.specs.Worked.{AreFit, HaveBeenPut};
 

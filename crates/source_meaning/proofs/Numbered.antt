@@ -1,10 +1,10 @@
 -- Numberings of statements: where they begin, and how they are taken apart.
-use Rattle.std.proofs.Common.{◌≡◌, ℕ, suc, ◌+◌, List, [], ◌∷◌, ◌++◌, length, take, drop, refl, sym, ap, ◌∙◌, arith}
+use Rattle.std.proofs.Common.{◌≡◌, ℕ, suc, ◌+◌, List, ◌++◌, length, take, drop, refl, sym, ap, ◌∙◌}
 use Rattle.std.proofs.lemmas.List.{length-append}
 use Rattle.std.proofs.Math.Seq.{take-append_seam, drop-append_seam}
 use Rattle.source_meaning.specs.Ast.{Stmt, var, if_only, if_else, stray_else, while, return, block, eval, Stmts, no_stmts, stmt}
 use Rattle.source_meaning.specs.Scope.{variables_in}
-use Rattle.source_meaning.specs.Numbering.{entry_of, joined, numbers, numbers_all, next_in, length_in, first_length}
+use Rattle.source_meaning.specs.Numbering.{joined, numbers, numbers_all, next_in, length_in, first_length}
 use Rattle.source_meaning.specs.Trees.{stmt_of}
 use Rattle.source_meaning.specs.declared.numbering.Entry.{Entry}
 use Rattle.source_meaning.specs.declared.rests.Branches.{Branches}

@@ -1,6 +1,6 @@
 // The plain interpreter: what a program does, step by step, with a stack of what is left to do.
 
-ghost use Rattle.std.specs.Prelude.{◌≡◌, ℕ, suc, ◌+◌, ◌≤◌, ◌++◌, [], ◌∷◌, IfOk, OnOk, option_map, map, MatchOption, replicate};
+ghost use Rattle.std.specs.Prelude.{◌≡◌, ℕ, ◌+◌, ◌≤◌, ◌++◌, [], ◌∷◌, IfOk, OnOk, option_map, map, MatchOption, replicate};
 ghost use Rattle.source_meaning.specs.Scope.{variable_of, function_of as function_named};
 ghost use Rattle.source_meaning.specs.Meaning.{meaning, call_in, value_in, target as target_of, Outcome as Ending};
 ghost use Rattle.source_meaning.specs.Trees.{expr_of, args_of, stmt_of, stmts_of, function_of, program_of};
