@@ -1,4 +1,4 @@
-ghost use Rattle.std.specs.Prelude.{◌≡◌, length};
+ghost use Rattle.std.specs.Prelude.{◌≡◌, ◌≤◌, [], length, vec_capacity};
 ghost use Rattle.list_parts.specs.Parts.{part_items, SamePlaces, Fits};
 
 use super::*;
@@ -32,6 +32,16 @@ fn in_two_threads<R: Threads>(whole: Part<u64>, rt: &R) -> (Part<u64>, ())
     (front.glue(back), ())
 }
 
+// Into chunks of two, and one part again, all of whose places are then written.
+fn by_chunks(whole: Part<u64>, room: Vec<Part<u64>>) -> (Part<u64>, ())
+    requires whole { (length (part_items whole) ≡ 5) × Fits 8 5 }
+    requires room { (room.items ≡ []) × (3 ≤ vec_capacity room) }
+    ensures { SamePlaces whole result.0 }
+{
+    let glued = Part::glue_all(whole.cut_all(2, 3, room));
+    (glued.copy_in(0, &[10, 20, 30, 40, 50]), ())
+}
+
 #[test]
 fn three_parts(rt: HostRuntime) {
     let mut list = [1, 2, 3, 4, 5, 6];
@@ -44,4 +54,13 @@ fn two_threads(rt: HostRuntime) {
     let mut list = [0; 4];
     with_part(&mut list, &rt, in_two_threads);
     assert_eq!(rt; list, [1, 2, 3, 4]);
+}
+
+#[test]
+fn chunks_are_glued(rt: HostRuntime) -> Result<(), Fail> {
+    let mut list = [1, 2, 3, 4, 5];
+    let room = Vec::with_capacity(rt.alloc(), 3)?;
+    with_part(&mut list, room, by_chunks);
+    assert_eq!(rt; list, [10, 20, 30, 40, 50]);
+    Ok(())
 }
