@@ -1,8 +1,9 @@
 //! Passes, for every kind of plan, and who works on them.
-ghost use Rattle.std.specs.Prelude.{◌≡◌, ◌<◌, ◌^◌, ◌/◌, length, map, IfOk};
+ghost use Rattle.std.specs.Prelude.{◌≡◌, ◌<◌, ◌≤◌, ◌^◌, ◌/◌, length, map, IfOk};
 
 use super::*;
 use crate::callers::crew;
+use crate::dealt::copies;
 use chunk_seats::{Gate, Plan};
 use std::alloc::{AllocError, Global};
 use std::process::Abort;
@@ -63,6 +64,67 @@ fn the_same_for_every_plan(rt: HostRuntime) -> Result<(), Fail> {
         for chunk in [1, 7, 65536] {
             rows(&rt, rt.alloc(), workers, chunk)?;
         }
+    }
+    Ok(())
+}
+
+// The passes over so many items, of which three make a chunk.
+fn answers<R: Threads + Abort + Sync>(
+    rt: &R,
+    alloc: Global,
+    workers: u32,
+    n: usize,
+) -> Result<(), Fail>
+    requires { n ≤ 4 }
+{
+    let crew = crew(rt, alloc, workers, 3)?;
+    let items = &[2, 4, 6, 8][..n];
+    let more = crew.map_lifted(items, &More)?;
+    assert!(rt; more.as_slice() == &[3, 5, 7, 9][..n]);
+    let half = crew.map(items, &|x: u32| x / 2)?;
+    assert!(rt; half.as_slice() == &[1, 2, 3, 4][..n]);
+    let kept = crew.compact(items, &[true; 4][..n])?;
+    assert!(rt; kept.as_slice() == items);
+    let places = crew.positions(items, &|x: u32| x > 1)?;
+    assert!(rt; places.as_slice() == &[0, 1, 2, 3][..n]);
+    let table = crew.tabulate(n as u32, &|k: u32| k / 2)?;
+    assert!(rt; table.as_slice() == &[0, 0, 1, 1][..n]);
+    let numbers = crew.by_chunks(n, n, &|k: u64| copies(alloc, k, 1))?;
+    assert!(rt; numbers.as_slice() == &[0, 1, 2, 3][..n]);
+    let up = crew.sorted(&[8, 6, 4, 2][4 - n..])?;
+    assert!(rt; up.as_slice() == items);
+    let sums = crew.scan_lifted(&Count, items, &More)?;
+    assert!(rt; sums.as_slice() == &[0, 3, 8, 15, 24][..n + 1]);
+    Ok(())
+}
+
+// The same for passes that ask something of each item.
+fn placed<R: Threads + Abort + Sync>(rt: &R, alloc: Global, workers: u32) -> Result<(), Fail> {
+    let crew = crew(rt, alloc, workers, 3)?;
+    assert!(rt; crew.gather(&[5, 6], &[])?.is_empty());
+    assert!(rt; crew.gather(&[5, 6], &[1])?.as_slice() == [6].as_slice());
+    assert!(rt; crew.gather(&[5, 6], &[1, 0, 1])?.as_slice() == [6, 5, 6].as_slice());
+    assert!(rt; crew.gather(&[5, 6], &[1, 0, 1, 1])?.as_slice() == [6, 5, 6, 6].as_slice());
+    assert!(rt; crew.scatter(&[], &[], 0)?.is_empty());
+    assert!(rt; crew.scatter(&[0], &[7], 1)?.as_slice() == [7].as_slice());
+    assert!(rt; crew.scatter(&[2, 1, 0], &[7, 8, 9], 3)?.as_slice() == [9, 8, 7].as_slice());
+    assert!(rt;
+        crew.scatter(&[3, 1, 0, 2], &[7, 8, 9, 6], 4)?.as_slice() == [9, 8, 6, 7].as_slice()
+    );
+    assert_eq!(rt; crew.least(&[])?, u64::MAX);
+    assert_eq!(rt; crew.least(&[5])?, 5);
+    assert_eq!(rt; crew.least(&[5, 7, 4])?, 4);
+    assert_eq!(rt; crew.least(&[5, 7, 6, 3])?, 3);
+    Ok(())
+}
+
+#[test]
+fn no_item_one_a_chunk_and_one_more(rt: HostRuntime) -> Result<(), Fail> {
+    for workers in [1, 4] {
+        for n in [0, 1, 3, 4] {
+            answers(&rt, rt.alloc(), workers, n)?;
+        }
+        placed(&rt, rt.alloc(), workers)?;
     }
     Ok(())
 }
@@ -224,6 +286,14 @@ fn two_workers_meet(rt: HostRuntime) -> Result<(), Fail> {
     let gate = nobody_yet();
     let more = at(&rt, alloc, 2, 1, &gate)?.map_lifted(&[1, 2], &More)?;
     assert!(rt; more.as_slice() == [2, 3].as_slice());
+    assert!(rt; have_met(&gate));
+    let gate = nobody_yet();
+    let half = at(&rt, alloc, 2, 1, &gate)?.map(&[2, 5], &|x: u32| x / 2)?;
+    assert!(rt; half.as_slice() == [1, 2].as_slice());
+    assert!(rt; have_met(&gate));
+    let gate = nobody_yet();
+    let numbers = at(&rt, alloc, 2, 1, &gate)?.by_chunks(2, 2, &|k: u64| copies(alloc, k, 1))?;
+    assert!(rt; numbers.as_slice() == [0, 1].as_slice());
     assert!(rt; have_met(&gate));
     let gate = nobody_yet();
     let placed = at(&rt, alloc, 2, 1, &gate)?.gather(&[5, 6, 7], &[2, 0, 2])?;

@@ -11,3 +11,4 @@ pub mod Naming
 pub mod Totals
 pub mod Rows
 mod OneWorker
+mod TwoLoads

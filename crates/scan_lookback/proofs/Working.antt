@@ -16,7 +16,12 @@ use Rattle.std.proofs.Common.{Vec, Global}
 use Rattle.word_monoid.specs.Monoid.{Ops}
 use Rattle.word_monoid.specs.Folds.{prefix_of}
 use Rattle.scan_lookback.specs.Cuts.{chunk_prefixes}
+use Rattle.std.specs.Prelude.{flat_map}
+use Rattle.std.proofs.lemmas.List.{append-nil}
+use Rattle.std.proofs.lemmas.List.Elements.{All-nil}
+use Rattle.std.proofs.lemmas.Grind.{flat_map-append}
 use Rattle.scan_lookback.specs.Views.{looks}
+use Rattle.scan_lookback.specs.LookBacks.{IsLookBack, LooksBack}
 use Rattle.scan_lookback.specs.Worked.{Even, Tidy}
 
 once_more : (n c : ℕ) (xs : List ℕ) → times n xs ≤ 1 → times c xs ≡ 0 → times n xs + one n c ≤ 1
@@ -63,6 +68,25 @@ all_more P xs ys x is ps p = subst (All P) (sym is) (All-push P xs x ps p)
 
 pub stands_last : (c : ℕ) (xs ys : List ℕ) → ys ≡ xs ++ c ∷ [] → 0 < times c ys
 stands_last c xs ys is = omega (arith, ap (times c) is, times_snoc c xs c, one_same c)
+
+abbrev Back : Type 0
+Back = ℕ × List (ℕ × ℕ)
+
+-- nothing is looked at yet
+pub back_none : (v : LookView) → LooksBack v v
+back_none v = record { backs = []; shown = sym (append-nil v.shown); looked = sym (append-nil v.looked); each = All-nil (λ (p : Back). IsLookBack p.0 p.1) }
+
+-- one more look-back
+pub back_more : (u v w : LookView) (c : ℕ) (loads : List (ℕ × ℕ)) → LooksBack u v → w ≡ looks (v.shown ++ c ∷ []) (v.sealed ++ c ∷ []) (v.looked ++ loads) v.share → IsLookBack c loads → LooksBack u w
+back_more u v w c loads so_far is one = record {
+  backs = so_far.backs ++ (c, loads) ∷ [];
+  shown = ap (λ (x : LookView). x.shown) is ∙ (ap (λ (l : List ℕ). l ++ c ∷ []) so_far.shown
+      ∙ (append_assoc u.shown (map (λ (p : Back). p.0) so_far.backs) (c ∷ []) ∙ ap (λ (l : List ℕ). u.shown ++ l) (sym (map-append (λ (p : Back). p.0) so_far.backs ((c, loads) ∷ [])))));
+  looked = ap (λ (x : LookView). x.looked) is ∙ (ap (λ (l : List (ℕ × ℕ)). l ++ loads) so_far.looked
+      ∙ (append_assoc u.looked (flat_map (λ (p : Back). p.1) so_far.backs) loads
+      ∙ ap (λ (l : List (ℕ × ℕ)). u.looked ++ l) (ap (λ (l : List (ℕ × ℕ)). flat_map (λ (p : Back). p.1) so_far.backs ++ l) (sym (append-nil loads)) ∙ sym (flat_map-append (λ (p : Back). p.1) so_far.backs ((c, loads) ∷ [])))));
+  each = All-push (λ (p : Back). IsLookBack p.0 p.1) so_far.backs (c, loads) so_far.each one;
+}
 
 -- an answer has its chunk's prefixes
 abbrev pub Answered : {T : Type 0} → Ops T → List T → ℕ → ℕ × Vec T Global → Type 0

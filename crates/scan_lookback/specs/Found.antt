@@ -2,6 +2,7 @@
 use Rattle.std.specs.Prelude.{◌≡◌, ℕ, ◌+◌, ◌*◌, List, slice_get, Some}
 use Rattle.word_monoid.specs.Monoid.{Ops, IsItem}
 use Rattle.word_monoid.specs.Folds.{prefix_of}
+use Rattle.scan_lookback.specs.LookBacks.{TellsPrefix}
 use Rattle.scan_lookback.specs.declared.look.Look.{Look}
 use Rattle.scan_lookback.specs.declared.look.Look.TheVariants.{Nothing, Sum, Prefix}
 use Rattle.scan_lookback.specs.declared.look.Known.{Known}
@@ -22,7 +23,7 @@ module _ {T : Type 0} (ops : Ops T) (sums : List T) where
   Found j word (Sum x) = (word ≡ 4 * ops.code x + 1) × IsSum j x
   Found j word (Prefix x) = (word ≡ 4 * ops.code x + 2) × IsPrefix j x
 
-  -- what is known of a chunk after a look, and a fold where it found nothing
-  abbrev pub KnownAt : ℕ → Known T → Type 0
-  KnownAt j (Part x) = IsSum j x
-  KnownAt j (Whole x) = IsPrefix j x × IsItem ops x
+  -- what is known of a chunk after a look at this word, and a fold where it found nothing
+  abbrev pub KnownAt : ℕ → ℕ → Known T → Type 0
+  KnownAt j word (Part x) = IsSum j x × (TellsPrefix word → ⊥)
+  KnownAt j word (Whole x) = IsPrefix j x × IsItem ops x × TellsPrefix word

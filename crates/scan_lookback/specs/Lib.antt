@@ -2,6 +2,7 @@ pub mod Views
 pub mod Posting
 pub mod LookSteps
 pub mod Held
+pub mod LookBacks
 pub mod Named
 pub mod Found
 pub mod Cuts

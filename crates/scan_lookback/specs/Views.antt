@@ -21,6 +21,10 @@ sealing v c = looks v.shown (v.sealed ++ c ∷ []) v.looked v.share
 abbrev pub looking : LookView → ℕ → ℕ → LookView
 looking v j word = looks v.shown v.sealed (v.looked ++ (j, word) ∷ []) v.share
 
+-- these chunks and words are loaded, in this order
+abbrev pub loading : LookView → List (ℕ × ℕ) → LookView
+loading v loads = looks v.shown v.sealed (v.looked ++ loads) v.share
+
 -- a new seat takes n of the share
 abbrev pub leaving : LookView → ℕ → LookView
 leaving v n = looks v.shown v.sealed v.looked (v.share - n)

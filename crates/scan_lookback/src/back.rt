@@ -1,9 +1,10 @@
 //! The look-back: the join of the sums before a chunk, from what others have published (Merrill and Garland, "Single-pass Parallel
 //! Prefix Scan with Decoupled Look-back"). A chunk that isn't published is folded and not waited for.
-ghost use Rattle.std.specs.Prelude.{◌≡◌, ℕ, ◌+◌, ◌<◌, ◌≤◌, length};
+ghost use Rattle.std.specs.Prelude.{◌≡◌, ℕ, ◌+◌, ◌<◌, ◌≤◌, List, length};
 ghost use Rattle.word_monoid.specs.Monoid.{IsItem};
 ghost use Rattle.word_monoid.specs.Folds.{prefix_of};
-ghost use Rattle.scan_lookback.specs.Views.{looks};
+ghost use Rattle.scan_lookback.specs.Views.{looking, loading};
+ghost use Rattle.scan_lookback.specs.LookBacks.{IsLookBack};
 ghost use Rattle.scan_lookback.specs.Held.{held};
 ghost use Rattle.scan_lookback.specs.Found.{Found, KnownAt, IsSum};
 
@@ -26,7 +27,7 @@ impl<'a, M: WordMonoid, N: Chunks<M::Item>> ScanBoard<'a, M, N> {
         requires callable { (u : _) → u.chunk ≡ j → F.pre fold.now u }
         requires folds { (u : _) (x : _) → u.chunk ≡ j → F.post fold.now u x → IsSum (M.ops self.now.monoid) N.sums j x }
         requires found { (word : ℕ) × Found (M.ops self.now.monoid) N.sums j word found }
-        ensures { KnownAt (M.ops self.now.monoid) N.sums j result }
+        ensures { (word : ℕ) → Found (M.ops self.now.monoid) N.sums j word found → KnownAt (M.ops self.now.monoid) N.sums j word result }
     {
         let _named = self.monoid();
         match found {
@@ -48,9 +49,7 @@ impl<'a, M: WordMonoid, N: Chunks<M::Item>> ScanBoard<'a, M, N> {
         requires chunk { j < self.now.chunks }
         requires callable { (u : _) → u.chunk ≡ j → F.pre fold.now u }
         requires folds { (u : _) (x : _) → u.chunk ≡ j → F.post fold.now u x → IsSum (M.ops self.now.monoid) N.sums j x }
-        ensures known { KnownAt (M.ops self.now.monoid) N.sums j result }
-        ensures noted { seat.new ≡ held seat.old.board (looks seat.old.view.shown seat.old.view.sealed seat.new.view.looked seat.old.view.share) }
-        ensures load { length seat.new.view.looked ≡ length seat.old.view.looked + 1 }
+        ensures load { (word : ℕ) × (seat.new ≡ held seat.old.board (looking seat.old.view j word)) × KnownAt (M.ops self.now.monoid) N.sums j word result }
         ensures counted { steps.new ≡ steps.old + 1 }
     {
         steps.tick();
@@ -73,10 +72,8 @@ impl<'a, M: WordMonoid, N: Chunks<M::Item>> ScanBoard<'a, M, N> {
         requires folds { (u : _) (x : _) → u.chunk < c → F.post fold.now u x → IsSum (M.ops self.now.monoid) N.sums u.chunk x }
         ensures joined { result ≡ prefix_of (M.ops self.now.monoid) N.sums c }
         ensures item { IsItem (M.ops self.now.monoid) result }
-        ensures noted { seat.new ≡ held seat.old.board (looks seat.old.view.shown seat.old.view.sealed seat.new.view.looked seat.old.view.share) }
-        ensures counted { steps.new + length seat.old.view.looked ≡ steps.old + length seat.new.view.looked }
+        ensures loads { (loads : List (ℕ × ℕ)) × (seat.new ≡ held seat.old.board (loading seat.old.view loads)) × IsLookBack c loads × (steps.new ≡ steps.old + length loads) }
         ensures bound { steps.new ≤ steps.old + c }
-        ensures looked { 0 < c → steps.old < steps.new }
     {
         let monoid = self.monoid();
         let mut sum = monoid.unit();
@@ -106,7 +103,7 @@ impl<'a, M: WordMonoid, N: Chunks<M::Item>> ScanBoard<'a, M, N> {
         requires folds { (u : _) (x : _) → u.chunk < c → F.post fold.now u x → IsSum (M.ops self.now.monoid) N.sums u.chunk x }
         ensures joined { result ≡ prefix_of (M.ops self.now.monoid) N.sums c }
         ensures item { IsItem (M.ops self.now.monoid) result }
-        ensures noted { seat.new ≡ held seat.old.board (looks seat.old.view.shown seat.old.view.sealed seat.new.view.looked seat.old.view.share) }
+        ensures loads { (loads : List (ℕ × ℕ)) × (seat.new ≡ held seat.old.board (loading seat.old.view loads)) × IsLookBack c loads }
     {
         let mut steps = Steps::<L>::new(blank);
         self.before(seat, c, fold, &mut steps)

@@ -1,9 +1,9 @@
 //! The board rule: a word for each chunk, on which workers publish sums and prefixes and from which they read those of others.
-ghost use Rattle.std.specs.Prelude.{◌≡◌, ℕ, ◌+◌, ◌<◌, ◌≤◌, ◌^◌, length, IfOk, slice_index};
+ghost use Rattle.std.specs.Prelude.{◌≡◌, ℕ, ◌+◌, ◌<◌, ◌≤◌, ◌^◌, All, length, IfOk, slice_index};
 ghost use Rattle.chunk_seats.specs.Tallies.{times};
 ghost use Rattle.word_monoid.specs.Folds.{prefix_of};
 ghost use Rattle.scan_lookback.specs.Views.{blank, showing, sealing, looking, leaving, uniting};
-ghost use Rattle.scan_lookback.specs.Posting.{Status};
+ghost use Rattle.scan_lookback.specs.Posting.{Says, Status};
 ghost use Rattle.scan_lookback.specs.LookSteps.{FoundNothing};
 ghost use Rattle.scan_lookback.specs.Named.{Names};
 ghost use Rattle.scan_lookback.specs.Held.{held};
@@ -111,14 +111,14 @@ pub struct Seat {
 }
 
 impl Model for Seat {
-    ghost use Rattle.std.specs.Prelude.{◌≡◌, []};
+    ghost use Rattle.std.specs.Prelude.{◌≡◌, ◌<◌, []};
     ghost use Rattle.scan_lookback.specs.Held.{Held, held};
 
     ghost Value = { Held };
 
     ghost view = { λ s. held s.token.table_id s.token.me.0 };
 
-    ghost invariant = { λ s. s.token.me.1 ≡ [] };
+    ghost invariant = { λ s. (s.token.me.1 ≡ []) × (0 < s.token.me.0.share) };
 }
 
 impl<'a, M: WordMonoid, N: Chunks<M::Item>> ScanBoard<'a, M, N> {
@@ -245,9 +245,15 @@ impl<'a, M: WordMonoid, N: Chunks<M::Item>> ScanBoard<'a, M, N> {
         self.table.shared.join_seat::<Unite>(&mut seat.token, token);
     }
 
-    /// Takes the board apart.
+    /// Takes the board apart. Each chunk that the seat has shown is one of the board's, each that it has sealed it has shown, and each word
+    /// above 0 that it has loaded says its chunk's sum or prefix. Of a seat into which all others were joined, it has shown each chunk
+    /// of which it has loaded such a word.
     pub fn close(self, seat: Seat)
-        requires { seat.board ≡ self.board }
+        requires board { seat.board ≡ self.board }
+        ensures shown { (c : ℕ) → 0 < times c seat.view.shown → c < self.entry.chunks }
+        ensures sealed { (c : ℕ) → 0 < times c seat.view.sealed → 0 < times c seat.view.shown }
+        ensures looked { All (λ p. 0 < p.1 → (p.0 < self.entry.chunks) × Says N.sum_codes N.prefix_codes p.0 p.1) seat.view.looked }
+        ensures found { seat.view.share ≡ self.entry.seats → All (λ p. 0 < p.1 → 0 < times p.0 seat.view.shown) seat.view.looked }
     {
         let Seat { token } = seat;
         let ScanBoard {

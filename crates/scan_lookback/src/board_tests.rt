@@ -15,6 +15,27 @@ use std::test::*;
 use std::thread;
 use std::thread::Threads;
 
+// Whoever meets chunk 0 unpublished folds it.
+fn before_one<N: Chunks<u64>, L: Ledger>(
+    board: &ScanBoard<Count, N>,
+    seat: &mut Seat,
+    blank: Blank,
+) -> u64
+    requires ledger { (blank.name ≡ L.name) × (blank.parts ≡ L.parts) × (0 < L.parts) }
+    requires board { (seat.old.board ≡ board.now.board) × (board.now.chunks ≡ 2) }
+    requires sums { N.sums ≡ 4 ∷ 5 ∷ [] }
+    ensures { seat.new.board ≡ seat.old.board }
+{
+    let fold = |unseen: Unseen| -> u64
+        ensures { result ≡ 4 }
+    {
+        let _ = unseen;
+        4
+    };
+    let mut steps = Steps::<L>::new(blank);
+    board.before(seat, 1, &fold, &mut steps)
+}
+
 fn looks<N: Chunks<u64>>(rt: &impl Abort, alloc: Global) -> Result<(), Fail>
     requires sums { N.sums ≡ 4 ∷ 5 ∷ [] }
     requires names { Names count N.sums N.sum_codes N.prefix_codes }
@@ -23,6 +44,7 @@ fn looks<N: Chunks<u64>>(rt: &impl Abort, alloc: Global) -> Result<(), Fail>
     let mut new = board.split(&mut old, 1);
     board.show(&mut old, 0, 4);
     assert!(rt; matches!(board.look(&mut new, 0), Look::Sum(4)));
+    assert_eq!(rt; before_one::<N, Brand>(&board, &mut new, Blank::new(1)), 4);
     board.seal(&mut old, 0, 4);
     assert!(rt; matches!(board.look(&mut new, 0), Look::Prefix(4)));
     assert!(rt; matches!(board.look(&mut new, 1), Look::Nothing(_)));
@@ -111,13 +133,7 @@ fn asks<N: Chunks<u64>>(board: &ScanBoard<Count, N>, mut seat: Seat) -> u64
     requires board { (seat.board ≡ board.now.board) × (board.now.chunks ≡ 2) }
     requires sums { N.sums ≡ 4 ∷ 5 ∷ [] }
 {
-    let fold = |unseen: Unseen| -> u64
-        ensures { result ≡ 4 }
-    {
-        let _ = unseen;
-        4
-    };
-    board.joined_before::<_, Brand>(&mut seat, 1, &fold, Blank::new(1))
+    before_one::<N, Brand>(board, &mut seat, Blank::new(1))
 }
 
 fn shows<N: Chunks<u64>>(board: &ScanBoard<Count, N>, mut seat: Seat)

@@ -1,10 +1,11 @@
 //! What a worker does with one chunk.
-ghost use Rattle.std.specs.Prelude.{◌≡◌, ℕ, ◌+◌, ◌-◌, ◌*◌, ◌<◌, ◌≤◌, ◌^◌, length, IfOk, ◌++◌, ◌∷◌, [], slice_get, Some, All};
+ghost use Rattle.std.specs.Prelude.{◌≡◌, ℕ, ◌+◌, ◌-◌, ◌*◌, ◌<◌, ◌≤◌, ◌^◌, length, IfOk, ◌++◌, ◌∷◌, [], slice_get, Some, List, All};
 ghost use Rattle.chunk_seats.specs.Chunks.{chunk_of};
 ghost use Rattle.word_monoid.specs.Monoid.{IsItem};
 ghost use Rattle.word_monoid.specs.Folds.{prefix_of};
 ghost use Rattle.scan_lookback.specs.Cuts.{Scans, chunk_prefixes};
 ghost use Rattle.scan_lookback.specs.Views.{looks};
+ghost use Rattle.scan_lookback.specs.LookBacks.{IsLookBack};
 ghost use Rattle.scan_lookback.specs.Held.{held};
 
 use crate::board::{ScanBoard, Seat};
@@ -60,7 +61,7 @@ impl<'a, M: WordMonoid, N: Chunks<M::Item>> ScanBoard<'a, M, N> {
         requires chunk { c < self.now.chunks }
         ensures start { result ≡ prefix_of (M.ops self.now.monoid) N.sums c }
         ensures item { IsItem (M.ops self.now.monoid) result }
-        ensures sealed { seat.new ≡ held seat.old.board (looks (seat.old.view.shown ++ c ∷ []) (seat.old.view.sealed ++ c ∷ []) seat.new.view.looked seat.old.view.share) }
+        ensures sealed { (loads : List (ℕ × ℕ)) × (seat.new ≡ held seat.old.board (looks (seat.old.view.shown ++ c ∷ []) (seat.old.view.sealed ++ c ∷ []) (seat.old.view.looked ++ loads) seat.old.view.share)) × IsLookBack c loads }
     {
         let monoid = self.monoid();
         let sum = chunk_sum::<T, M, N, F>(monoid, items, lift, size, c);
@@ -90,7 +91,7 @@ impl<'a, M: WordMonoid, N: Chunks<M::Item>> ScanBoard<'a, M, N> {
         requires size { 0 < size }
         requires chunk { c < self.now.chunks }
         ensures list { IfOk result (λ v. v.items ≡ chunk_prefixes (M.ops self.now.monoid) size N.items c) }
-        ensures sealed { seat.new ≡ held seat.old.board (looks (seat.old.view.shown ++ c ∷ []) (seat.old.view.sealed ++ c ∷ []) seat.new.view.looked seat.old.view.share) }
+        ensures sealed { (loads : List (ℕ × ℕ)) × (seat.new ≡ held seat.old.board (looks (seat.old.view.shown ++ c ∷ []) (seat.old.view.sealed ++ c ∷ []) (seat.old.view.looked ++ loads) seat.old.view.share)) × IsLookBack c loads }
     {
         let monoid = self.monoid();
         let start = self.publish(seat, items, lift, size, c);

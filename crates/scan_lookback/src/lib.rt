@@ -18,6 +18,7 @@ mod steps;
 mod views;
 mod words;
 mod work;
+mod worked;
 
 pub use board::{ScanBoard, Seat};
 pub use look::{Look, Unseen};
@@ -26,6 +27,7 @@ pub use single_pass::{scan, scan_lifted};
 pub use steps::Steps;
 pub use views::{Chunks, Codes, Lift, Lifted, LookView};
 pub use word_monoid::{Count, Greatest, Signed, WordMonoid};
+pub use worked::worked_look_back;
 
 #[cfg(test)]
 mod board_tests;

@@ -2,6 +2,7 @@
 ghost use Rattle.std.specs.Prelude.{◌≡◌, ℕ, ◌<◌, All, map, IfOk, ◌++◌};
 ghost use Rattle.std.specs.Result.{OnOk, OnErr};
 ghost use Rattle.scan_lookback.specs.Cuts.{Scans, chunk_prefixes};
+ghost use Rattle.scan_lookback.specs.LookBacks.{LooksBack};
 ghost use Rattle.scan_lookback.specs.Worked.{Even, Tidy};
 
 use crate::board::{ScanBoard, Seat};
@@ -32,6 +33,7 @@ impl<'a, M: WordMonoid, N: Chunks<M::Item>> ScanBoard<'a, M, N> {
         requires scans { Scans (M.ops self.now.monoid) (F.post lift.now) plan.now.chunk items.now N.items N.sums }
         ensures boards { (seat.new.board ≡ seat.old.board) × (mine.new.board ≡ mine.old.board) }
         ensures shares { (seat.new.view.share ≡ seat.old.view.share) × (mine.new.view.weight ≡ mine.old.view.weight) }
+        ensures looked { LooksBack seat.old.view seat.new.view }
         ensures spent { OnOk result (mine.new.view.share ≡ 0) }
         ensures even { OnOk result (Even mine.new.view seat.new.view) }
         ensures drawn { IfOk result (λ v. mine.new.view.claimed ≡ mine.old.view.claimed ++ map (λ p. p.0) v.items) }

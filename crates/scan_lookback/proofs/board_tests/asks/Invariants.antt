@@ -1,4 +1,4 @@
 use Rattle.scan_lookback.proofs.board_tests.asks.Given as goal
 
-abbrev pub ghosts-joined_before : goal.ghosts-joined_before
-ghosts-joined_before g a = record { name = a.blank.name; parts = a.blank.parts }
+abbrev pub ghosts-before_one : goal.ghosts-before_one
+ghosts-before_one g a = record { name = a.blank.name; parts = a.blank.parts }

@@ -2,12 +2,14 @@ use Rattle.std.proofs.Common.{ap, ◌∙◌, sym, subst}
 use Rattle.word_monoid.specs.Monoid.{IsItem}
 use Rattle.word_monoid.proofs.Folds.{prefix_next}
 use Rattle.scan_lookback.proofs.Coded.{sum_item}
+use Rattle.scan_lookback.specs.Held.{held}
+use Rattle.scan_lookback.specs.Views.{sealing, loading}
 use Rattle.scan_lookback.proofs.Working.{stands_last}
 use Rattle.scan_lookback.proofs.board.ScanBoard.publish.Goals as goal
 
 pub seal-requires-clause-shown : goal.seal-requires-clause-shown
 seal-requires-clause-shown g c =
-    stands_last c.args.c c.args.seat.now.view.shown c.joined_before-start.new.seat.view.shown (ap (λ s. s.view.shown) c.joined_before-start.ensures.noted ∙ ap (λ s. s.view.shown) c.show.ensures)
+    stands_last c.args.c c.args.seat.now.view.shown c.joined_before-start.new.seat.view.shown (ap (λ s. s.view.shown) c.joined_before-start.ensures.loads.1 ∙ ap (λ s. s.view.shown) c.show.ensures)
 
 pub join-requires : goal.join-requires
 join-requires g c =
@@ -27,3 +29,11 @@ seal-requires-clause-prefix g c =
     ∙ (ap (λ n. (g.M.WordMonoid.ops n).join c.joined_before-start.result c.chunk_sum-sum.result) same
     ∙ (ap (λ x. (g.M.WordMonoid.ops m).join x c.chunk_sum-sum.result) c.joined_before-start.ensures.joined
     ∙ sym (prefix_next (g.M.WordMonoid.ops m) g.N.Chunks.sums c.args.c c.chunk_sum-sum.result c.chunk_sum-sum.ensures)))
+
+pub returns-clause-sealed : goal.returns-clause-sealed
+returns-clause-sealed g c =
+    let back = c.joined_before-start.ensures.loads in (
+      back.0,
+      c.seal.ensures ∙ (ap (λ s. held s.board (sealing s.view c.args.c)) back.1 ∙ ap (λ s. held s.board (sealing (loading s.view back.0) c.args.c)) c.show.ensures),
+      back.2,
+    )

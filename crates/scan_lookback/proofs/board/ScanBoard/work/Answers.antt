@@ -1,23 +1,36 @@
-use Rattle.std.proofs.Common.{ℕ, ◌<◌, ap, ◌∙◌, sym, subst}
+use Rattle.std.proofs.Common.{ℕ, ◌<◌, refl, ap, ◌∙◌, sym, subst, rules}
 use Rattle.chunk_seats.specs.Claims.{finishing}
 use Rattle.scan_lookback.proofs.Working.{stands_last}
-use Rattle.scan_lookback.proofs.Working.{even_more, tidy_sealed, on_err, tidy_as, even_as, answers_more, all_more, Answered}
+use Rattle.scan_lookback.proofs.Working.{even_more, tidy_sealed, on_err, tidy_as, even_as, answers_more, all_more, Answered, back_none, back_more}
 use Rattle.scan_lookback.proofs.board.ScanBoard.work.Goals as goal
 
 pub returns-in_err-list-clause-tidy : goal.returns-in_err-list-clause-tidy
 returns-in_err-list-clause-tidy g c =
     let drawn = c.in-Some.ensures.some in
-    on_err c.from_residual.result (tidy_as _ _ _ _ (ap (λ s. s.view) drawn.1) (ap (λ s. s.view) c.chunk.ensures.sealed)
-    (tidy_sealed c.loop-c.mine.view c.loop-c.seat.view c.in-Some.c c.chunk.new.seat.view.looked c.loop-c.invariant.even drawn.2))
+    on_err c.from_residual.result (tidy_as _ _ _ _ (ap (λ s. s.view) drawn.1) (ap (λ s. s.view) c.chunk.ensures.sealed.1)
+    (tidy_sealed c.loop-c.mine.view c.loop-c.seat.view c.in-Some.c _ c.loop-c.invariant.even drawn.2))
 
 pub returns-in_err-push-clause-tidy : goal.returns-in_err-push-clause-tidy
 returns-in_err-push-clause-tidy g c =
     let drawn = c.in-Some.ensures.some in
-    on_err c.from_residual-in_err-push.result (tidy_as _ _ _ _ (ap (λ s. s.view) drawn.1) (ap (λ s. s.view) c.chunk.ensures.sealed)
-    (tidy_sealed c.loop-c.mine.view c.loop-c.seat.view c.in-Some.c c.chunk.new.seat.view.looked c.loop-c.invariant.even drawn.2))
+    on_err c.from_residual-in_err-push.result (tidy_as _ _ _ _ (ap (λ s. s.view) drawn.1) (ap (λ s. s.view) c.chunk.ensures.sealed.1)
+    (tidy_sealed c.loop-c.mine.view c.loop-c.seat.view c.in-Some.c _ c.loop-c.invariant.even drawn.2))
 
 pub done-requires-clause-claimed : goal.done-requires-clause-claimed
 done-requires-clause-claimed g c = stands_last c.in-Some.c c.loop-c.mine.view.claimed _ (ap (λ s. s.view.claimed) c.in-Some.ensures.some.1)
+
+pub loop-c-init : goal.loop-c-init
+loop-c-init g c = record {
+  seat_board = refl;
+  mine_board = refl;
+  seat_share = refl;
+  weight = refl;
+  unspent = c.requires.unspent;
+  even = c.requires.even;
+  looked = back_none _;
+  drawn = search rules;
+  lists = search rules;
+}
 
 pub loop-c-preserved : goal.loop-c-preserved
 loop-c-preserved g c =
@@ -25,13 +38,20 @@ loop-c-preserved g c =
     let i = c.loop-c.invariant in
     let sealed = c.chunk.ensures.sealed in
     record {
-      seat_board = ap (λ s. s.board) sealed ∙ i.seat_board;
+      seat_board = ap (λ s. s.board) sealed.1 ∙ i.seat_board;
       mine_board = ap (λ s. s.board) c.done.ensures ∙ (ap (λ s. s.board) drawn.1 ∙ i.mine_board);
-      seat_share = ap (λ s. s.view.share) sealed ∙ i.seat_share;
+      seat_share = ap (λ s. s.view.share) sealed.1 ∙ i.seat_share;
       weight = ap (λ s. s.view.weight) c.done.ensures ∙ (ap (λ s. s.view.weight) drawn.1 ∙ i.weight);
       unspent = subst (λ (n : ℕ). 0 < n) (sym (ap (λ s. s.view.share) c.done.ensures ∙ ap (λ s. s.view.share) drawn.1)) i.unspent;
-      even = even_as _ _ _ _ (ap (λ s. s.view) c.done.ensures ∙ ap (λ s. finishing s.view c.in-Some.c) drawn.1) (ap (λ s. s.view) sealed)
-          (even_more c.loop-c.mine.view c.loop-c.seat.view c.in-Some.c c.chunk.new.seat.view.looked i.even drawn.2);
+      even = even_as _ _ _ _ (ap (λ s. s.view) c.done.ensures ∙ ap (λ s. finishing s.view c.in-Some.c) drawn.1) (ap (λ s. s.view) sealed.1)
+          (even_more c.loop-c.mine.view c.loop-c.seat.view c.in-Some.c _ i.even drawn.2);
+      looked = back_more c.args.seat.now.view c.loop-c.seat.view _ c.in-Some.c sealed.0 i.looked (ap (λ s. s.view) sealed.1) sealed.2;
       drawn = answers_more c.loop-c.mine.view.claimed _ _ c.loop-c.all.items _ c.in-Some.c c.in_ok-list.list i.drawn (ap (λ s. s.view.claimed) c.done.ensures ∙ ap (λ s. s.view.claimed) drawn.1) c.in_ok-push.ensures.items;
       lists = all_more (Answered (g.M.WordMonoid.ops c.args.self.now.monoid) g.N.Chunks.items c.args.plan.now.chunk) c.loop-c.all.items _ (c.in-Some.c, c.in_ok-list.list) c.in_ok-push.ensures.items i.lists c.in_ok-list.ensures.list;
     }
+
+pub returns-in_err-list-clause-looked : goal.returns-in_err-list-clause-looked
+returns-in_err-list-clause-looked g c = let sealed = c.chunk.ensures.sealed in back_more _ c.loop-c.seat.view _ c.in-Some.c sealed.0 c.loop-c.invariant.looked (ap (λ s. s.view) sealed.1) sealed.2
+
+pub returns-in_err-push-clause-looked : goal.returns-in_err-push-clause-looked
+returns-in_err-push-clause-looked g c = let sealed = c.chunk.ensures.sealed in back_more _ c.loop-c.seat.view _ c.in-Some.c sealed.0 c.loop-c.invariant.looked (ap (λ s. s.view) sealed.1) sealed.2

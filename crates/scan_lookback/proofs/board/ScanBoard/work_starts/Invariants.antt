@@ -1,5 +1,6 @@
 use Rattle.std.proofs.Common.{◌≡◌, ◌<◌, ◌-◌, ◌++◌, map, length}
 use Rattle.std.specs.Prelude.{All}
+use Rattle.scan_lookback.specs.LookBacks.{LooksBack}
 use Rattle.scan_lookback.specs.Worked.{Even}
 use Rattle.scan_lookback.proofs.Working.{StartsAt}
 use Rattle.scan_lookback.proofs.board.ScanBoard.work_starts.Given as goal
@@ -12,6 +13,7 @@ invariant-loop-c g l = record {
   weight : l.mine.view.weight ≡ l.initial.mine.view.weight;
   unspent : 0 < l.mine.view.share;
   even : Even l.mine.view l.seat.view;
+  looked : LooksBack l.initial.seat.view l.seat.view;
   drawn : l.mine.view.claimed ≡ l.initial.mine.view.claimed ++ map (λ p. p.0) l.all.items;
   starts : All (StartsAt (g.M.WordMonoid.ops l.self.monoid) g.N.Chunks.sums) l.all.items;
 }
