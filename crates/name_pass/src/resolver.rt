@@ -15,7 +15,7 @@ use crate::fault::NameFault;
 use crate::fault_keys::main_key;
 use crate::found::{found, least_key, meant};
 use crate::scopes::Scopes;
-use crate::sorted::{declarations, functions};
+use crate::sorted::{parted, sorted_keys};
 use ast_rows::{Names, Rows, Tokens};
 use par_passes::Passes;
 
@@ -33,15 +33,15 @@ pub fn resolve(
     ensures ok { IfOk result (λ n. (p : Source) → rows.now ≡ post p → IsFormed (length tokens.now) (spelled text.now tokens.now) p → (scope_faults (length tokens.now) p ≡ []) × AreNames p (λ k. slice_index_or n.meant k None) (λ k. slice_index_or n.numbers k 0) n.main) }
     ensures fault { (code at : ℕ) → result ≡ Err (Told code at) → (p : Source) → rows.now ≡ post p → IsFormed (length tokens.now) (spelled text.now tokens.now) p → earliest (scope_faults (length tokens.now) p) ≡ Some (record { at = at; code = code }) }
 {
-    let declarations = declarations(crew, text, tokens, rows)?;
-    let functions = functions(crew, text, tokens, rows)?;
-    let ends = minima_of_ends(crew, rows, &declarations)?;
+    let keys = sorted_keys(crew, text, tokens, rows)?;
+    let (functions, declarations) = parted(&keys);
+    let ends = minima_of_ends(crew, rows, declarations)?;
     let scopes = Scopes {
         text,
         tokens,
         rows,
-        declarations: &declarations,
-        functions: &functions,
+        declarations,
+        functions,
         ends: &ends,
     };
     let words = found(crew, &scopes)?;
