@@ -1,6 +1,5 @@
 //! What is known of a source before its code is made.
 ghost use Rattle.std.specs.Prelude.{◌≡◌, ◌≤◌, length, IfOk, IfErr};
-ghost use Rattle.std.specs.Thread.{IsSync};
 ghost use Rattle.grammar_file.specs.Spelling.{IsReduced};
 ghost use Rattle.llp_tables.specs.EntryTable.{AreTablesOf};
 ghost use Rattle.source_meaning.specs.Grammar.{Tree, Prog, grammar};
@@ -11,14 +10,12 @@ use crate::phases::{lexed, named, parsed, shaped, typed};
 use crate::refusal::Refusal;
 use crate::tables::language_tables;
 use ast_rows::{Names, Rows, Tokens, Types};
+use limits::MOST_SOURCE;
 use llp_tables::Tables;
 use par_passes::Passes;
 use row_laws::rows_are_few;
 use std::alloc::AllocError;
 use std::thread::join;
-
-/// The most bytes of a source.
-pub const MOST_SOURCE: usize = 1_048_576;
 
 /// What is known of a source before its code is made.
 #[derive(Drop)]
@@ -58,7 +55,7 @@ fn meant(
 }
 
 // The parse tables of the language, made in one thread, and the tokens of the source, in another one.
-fn tables_beside_tokens<C: Passes + Sync>(
+fn tables_beside_tokens<C: Passes>(
     crew: &C,
     source: &[u8],
 ) -> Result<(Tables, Tokens), Refusal>
@@ -82,7 +79,7 @@ fn tables_beside_tokens<C: Passes + Sync>(
 }
 
 // The parse tables of the language and the tokens of the source, one after the other where there is one worker.
-fn tables_and_tokens<C: Passes + Sync>(crew: &C, source: &[u8]) -> Result<(Tables, Tokens), Refusal>
+fn tables_and_tokens<C: Passes>(crew: &C, source: &[u8]) -> Result<(Tables, Tokens), Refusal>
     requires fits { length source.now ≤ 1048576 }
     ensures ok { IfOk result (λ b. AreTablesOf grammar b.0 × IsReduced grammar × AreTokens source.now b.1) }
     ensures refused { IfErr result (IsRefusedBy source.now) }
@@ -96,7 +93,7 @@ fn tables_and_tokens<C: Passes + Sync>(crew: &C, source: &[u8]) -> Result<(Table
 }
 
 // The phases of a source that isn't too large.
-fn parts(crew: &(impl Passes + Sync), source: &[u8]) -> Result<Analysis, Refusal>
+fn parts(crew: &impl Passes, source: &[u8]) -> Result<Analysis, Refusal>
     requires fits { length source.now ≤ 1048576 }
     ensures ok { IfOk result (λ f. (t : Tree Prog) × IsAnalysis source.now t f) }
     ensures refused { IfErr result (IsRefusedBy source.now) }
@@ -108,7 +105,7 @@ fn parts(crew: &(impl Passes + Sync), source: &[u8]) -> Result<Analysis, Refusal
 
 /// The tokens, rows, names and types of a source that has no diagnostic of the phases up to types; or its first diagnostic, where it has
 /// one, or the limit of a source's bytes. They are the same for every plan and gate. The only other refusal is that memory is out.
-pub fn front(crew: &(impl Passes + Sync), source: &[u8]) -> Result<Analysis, Refusal>
+pub fn front(crew: &impl Passes, source: &[u8]) -> Result<Analysis, Refusal>
     ensures ok { IfOk result (λ f. (t : Tree Prog) × IsAnalysis source.now t f) }
     ensures refused { IfErr result (IsRefusedBy source.now) }
 {

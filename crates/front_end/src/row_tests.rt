@@ -4,6 +4,7 @@ use crate::phases::{lexed, parsed};
 use crate::tables::language_tables;
 use ast_rows::Rows;
 use chunk_seats::{Gate, OpenGate, Plan};
+use limits::MOST_SOURCE;
 use par_passes::{Passes, Workers};
 use source_meaning::{BinaryOp, Kind, UnaryOp, ValueType};
 use std::alloc::Global;

@@ -1,6 +1,7 @@
 //! Sources and their first diagnostics, and the rows of one, for every plan.
 use super::*;
 use chunk_seats::{OpenGate, Plan};
+use limits::MOST_SOURCE;
 use par_passes::{Passes, Workers};
 use std::alloc::Global;
 use std::process::Abort;
@@ -103,7 +104,7 @@ const ACCEPTED: [(&[u8], usize); 4] = [
 // Sees that the source has this diagnostic, and no other answer.
 fn expect<R: Threads + Abort + Sync>(
     rt: &R,
-    crew: &(impl Passes + Sync),
+    crew: &impl Passes,
     (source, code, at): Diagnosed,
 ) -> Result<(), Fail> {
     match front(crew, source) {

@@ -169,3 +169,9 @@ gives_by_number {T} post items out all = record {
 pub numbers_of_chunk : (size n c from m : ℕ) → from ≡ min (c * size) n → length (chunk_of size (range_with_len 0 n) c) ≡ m → chunk_of size (range_with_len 0 n) c ≡ range_with_len from m
 numbers_of_chunk size n c from m begins wide =
     range_chunk size n c from begins ∙ ap (range_with_len from) (sym (ap (λ k. min size (k - c * size)) (length-range_with_len 0 n)) ∙ (sym (length_chunk size (range_with_len 0 n) c) ∙ wide))
+
+-- the same by how many numbers are left from where it begins
+pub numbers_in_chunk : (size n c from count : ℕ) → from ≡ min (c * size) n → count ≡ min (n - from) size → chunk_of size (range_with_len 0 n) c ≡ range_with_len from count
+numbers_in_chunk size n c from count begins many =
+    let m : min size (n - c * size) ≡ count = omega (arith, begins, many) in
+    range_chunk size n c from begins ∙ ap (range_with_len from) m

@@ -5,3 +5,4 @@ pub mod Working
 pub mod Lowest
 pub mod Calling
 pub mod Gluing
+pub mod Choosing

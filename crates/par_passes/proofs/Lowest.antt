@@ -1,7 +1,9 @@
 -- The least key of a list is the least of its chunks' least keys.
-use Rattle.std.proofs.Common.{◌≡◌, ℕ, zero, suc, ◌+◌, ◌*◌, ◌<◌, ◌≤◌, List, [], ◌∷◌, ◌++◌, length, take, map, fold, min, sym, ap, ◌∙◌, subst, arith, suc-mul, take-add, ⊎_elim}
+use Rattle.std.proofs.Common.{◌≡◌, ℕ, zero, suc, ◌+◌, ◌*◌, ◌<◌, ◌≤◌, List, [], ◌∷◌, ◌++◌, length, slice_index_or, take, map, fold, min, sym, ap, ◌∙◌, refl, subst, arith, suc-mul, take-add, ⊎_elim}
 use Rattle.std.proofs.lemmas.Bool.{cases_lt}
-use Rattle.std.proofs.lemmas.List.{take_all}
+use Rattle.std.proofs.lemmas.List.{ext_get_or, take_all}
+use Rattle.std.specs.List.{range_with_len}
+use Rattle.std.proofs.lemmas.List.FromFn.{get_or-map-range_with_len, length-map-range_with_len, map-range_with_len_more}
 use Rattle.std.proofs.lemmas.List.Sums.{fold-append}
 use mathlib.Core.Logic.{dite}
 use native.Mathlib.Decide.{ℕ_discrete}
@@ -33,6 +35,19 @@ least_low (x ∷ xs) =
 
 least_both : (xs ys : List ℕ) → least_key (xs ++ ys) ≡ min (least_key xs) (least_key ys)
 least_both xs ys = fold-append min top xs ys ∙ least_from (least_key xs) ys (least_low xs)
+
+-- one number more
+pub least_more : (code : ℕ → ℕ) (from i least key : ℕ) → least ≡ least_key (map code (range_with_len from i)) → key ≡ code (from + i) → min least key ≡ least_key (map code (range_with_len from (i + 1)))
+least_more code from i least key so_far is =
+    (λ j. min (so_far j) (is j)) ∙ sym (ap least_key (map-range_with_len_more code from i (from + i) refl) ∙ fold-append min top (map code (range_with_len from i)) (code (from + i) ∷ []))
+
+-- the keys at the places of a list are the list
+pub keys_by_place : (keys : List ℕ) → map (λ k. slice_index_or keys k 0) (range_with_len 0 (length keys)) ≡ keys
+keys_by_place keys =
+    let at : ℕ → ℕ = λ k. slice_index_or keys k 0 in
+    let n : length (map at (range_with_len 0 (length keys))) ≡ length keys = length-map-range_with_len at 0 (length keys) in
+    ext_get_or 0 (map at (range_with_len 0 (length keys))) keys n
+    (λ i less. get_or-map-range_with_len at 0 (length keys) i i 0 (omega (arith, n)) (omega arith))
 
 -- how often what h gives of a number stands in a list
 times_image : (h : ℕ → ℕ) (c : ℕ) (xs : List ℕ) → 0 < times c xs → 0 < times (h c) (map h xs)

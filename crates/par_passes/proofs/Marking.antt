@@ -1,8 +1,7 @@
 -- Marked items and numbers, item by item and chunk by chunk.
-use Rattle.std.proofs.Common.{◌≡◌, ℕ, zero, suc, ◌+◌, ◌-◌, ◌*◌, ◌<◌, min, Bool, true, false, cond, All, List, [], ◌∷◌, ◌++◌, length, get_or, take, drop, map, filter, refl, sym, ap, ◌∙◌, subst, arith, add-one, suc-mul, take-add, append_assoc}
+use Rattle.std.proofs.Common.{◌≡◌, ℕ, zero, suc, ◌+◌, ◌-◌, ◌*◌, ◌<◌, min, Bool, true, false, cond, List, [], ◌∷◌, ◌++◌, length, get_or, take, drop, map, filter, refl, sym, ap, ◌∙◌, subst, arith, add-one, suc-mul, take-add, append_assoc}
 use Rattle.std.specs.List.{range_with_len, zip}
-use Rattle.std.proofs.lemmas.List.{take_more, take-map, drop-map, map_more, length-take, length-drop, length-map}
-use Rattle.std.proofs.lemmas.List.FromFn.{length-range_with_len}
+use Rattle.std.proofs.lemmas.List.{take_more, take-map, drop-map, length-take, length-drop}
 use Rattle.chunk_seats.specs.Chunks.{chunk_of, chunk_count}
 use Rattle.par_passes.specs.Passes.{marked}
 use Rattle.par_passes.proofs.Together.{kept_parts, whole_list}
@@ -80,18 +79,6 @@ pub marked_all : {X : Type 0} (xs : List X) (ms : List Bool) (size c : ℕ) → 
 marked_all xs ms size c pos same is =
     λ i. marked (whole_list size c xs pos is i) (whole_list size c ms pos (is ∙ ap (chunk_count size) (sym same)) i)
 
--- a mark for each place
-pub as_many : {X Y : Type 0} (g : X → Y) (xs : List X) → length (map g xs) ≡ length (range_with_len 0 (length xs))
-as_many g xs = length-map xs g ∙ sym (length-range_with_len 0 (length xs))
-
--- the places of a chunk's items are a chunk of the places
-pub places_in_chunk : {X : Type 0} (g : X → Bool) (size c from : ℕ) (items part : List X) → from ≡ min (c * size) (length items) → part ≡ chunk_of size items c
-    → marked (range_with_len from (length part)) (map g part) ≡ marked (chunk_of size (range_with_len 0 (length items)) c) (chunk_of size (map g items) c)
-places_in_chunk g size c from items part begins is =
-    (λ i. marked (range_with_len from (length (is i))) (map g (is i)))
-    ∙ ((λ i. marked (range_with_len from (length_chunk size items c i)) (map g (chunk_of size items c)))
-    ∙ (λ i. marked (sym (range_chunk size (length items) c from begins) i) (sym (map_chunk g size items c) i)))
-
 -- what is pushed of one item more
 pub push_marked : {X : Type 0} (old out more xs xs' : List X) (ms ms' : List Bool) (x : X) (b : Bool) → length ms ≡ length xs → xs' ≡ xs ++ x ∷ [] → ms' ≡ ms ++ b ∷ [] → out ≡ old ++ marked xs ms
     → more ≡ out ++ cond b (x ∷ []) [] → more ≡ old ++ marked xs' ms'
@@ -110,13 +97,3 @@ push_item {X} xs ms k x d old out more same less here so_far added =
     (take_more xs k x less ∙ ap (λ (y : X). take k xs ++ y ∷ []) (sym here))
     (take_more ms k d (omega arith))
     so_far added
-
--- the same for places, where a function that calls compute says what is pushed
-pub push_place : {X : Type 0} (post : X → Bool → Type 0) (g : X → Bool) (part : List X) (from k : ℕ) (x : X) (r : Bool) (old out more : List ℕ) → k < length part → x ≡ get_or part k x → post x r
-    → All (λ x. (r : Bool) → post x r → r ≡ g x) part → out ≡ old ++ marked (range_with_len from k) (map g (take k part)) → more ≡ out ++ cond r ((from + k) ∷ []) []
-    → more ≡ old ++ marked (range_with_len from (k + 1)) (map g (take (k + 1) part))
-push_place {X} post g part from k x r old out more less here gave computes so_far added =
-    let there : r ≡ g (get_or part k x) = computes k x less r (subst (λ (y : X). post y r) here gave) in
-    let level : length (map g (take k part)) ≡ length (range_with_len from k) = length-map (take k part) g ∙ (length-take k part ∙ ((omega arith) ∙ sym (length-range_with_len from k))) in
-    push_marked old out more (range_with_len from k) (range_with_len from (k + 1)) (map g (take k part)) (map g (take (k + 1) part)) (from + k) r level
-    (range_next from k) (map_more g part k x less ∙ ap (λ (m : Bool). map g (take k part) ++ m ∷ []) (sym there)) so_far added

@@ -1,5 +1,5 @@
 //! How each pass is called, and how little is then left to prove.
-ghost use Rattle.std.specs.Prelude.{◌≡◌, ◌+◌, ◌-◌, ◌%◌, ◌/◌, ◌<◌, ◌≤◌, ◌^◌, length, leb, map, filter, flat_map, replicate, fold, min, slice_index, slice_index_or, All, IfOk, IsPermutation, IsSorted};
+ghost use Rattle.std.specs.Prelude.{◌≡◌, ◌==◌, ◌+◌, ◌-◌, ◌%◌, ◌/◌, ◌<◌, ◌≤◌, ◌^◌, length, leb, map, filter, flat_map, replicate, fold, min, slice_index, slice_index_or, All, IfOk, IsPermutation, IsSorted};
 ghost use Rattle.std.specs.List.{range_with_len};
 ghost use Rattle.std.specs.Ordering.{nat_cmp};
 ghost use Rattle.word_monoid.specs.Folds.{prefixes};
@@ -11,6 +11,7 @@ use super::*;
 use crate::dealt::copies;
 use chunk_seats::{OpenGate, Plan};
 use std::alloc::{AllocError, Global};
+use std::marker::Brand;
 use std::process::Abort;
 use std::test::*;
 use std::thread::Threads;
@@ -90,6 +91,18 @@ pub(crate) fn places_from(crew: &impl Passes, xs: &[u64], low: u64) -> Result<Ve
     crew.positions(xs, &|x: u64| low <= x)
 }
 
+// The numbers of which a function says yes.
+pub(crate) fn multiples(crew: &impl Passes, count: u32, of: u32) -> Result<Vec<u32>, AllocError>
+    requires { 0 < of }
+    ensures { IfOk result (λ v. v.items ≡ filter (λ k. k % of == 0) (range_with_len 0 count)) }
+{
+    let is_multiple = |k: u32| -> bool
+        requires { 0 < of }
+        ensures { result ≡ (k % of == 0) }
+    { k % of == 0 };
+    crew.numbers_where(count, &is_multiple)
+}
+
 // By how much each item but the first is greater than the one before it: a table by a closure over a list that it borrows.
 pub(crate) fn rises(crew: &impl Passes, xs: &[u64]) -> Result<Vec<u64>, AllocError>
     requires len { length xs.now ≤ 2 ^ 32 }
@@ -110,6 +123,18 @@ pub(crate) fn lowest(crew: &impl Passes, xs: &[u64]) -> Result<u64, AllocError>
 {
     let keys = crew.map_lifted(xs, &Low)?;
     crew.least(keys.as_slice())
+}
+
+// The least of what a function of places gives.
+pub(crate) fn lowest_of(crew: &impl Passes, xs: &[u64]) -> Result<u64, AllocError>
+    requires len { length xs.now < 2 ^ 32 }
+    ensures { IfOk result (λ m. m ≡ fold min (2 ^ 64 - 1) (map (λ k. slice_index xs.now k % 1024) (range_with_len 0 (length xs.now)))) }
+{
+    let low = |k: u32| -> u64
+        requires { k < length xs.now }
+        ensures { result ≡ slice_index xs.entry.now k % 1024 }
+    { xs[k as usize] % 1024 };
+    crew.least_of::<_, Brand>(xs.len() as u32, &low)
 }
 
 // Where each piece begins, from the pieces' lengths.
@@ -199,10 +224,15 @@ fn calls<R: Threads + Abort + Sync>(
     let high = at_least(&crew, &[5, 1, 7, 3], 4)?;
     assert!(rt; high.as_slice() == [5, 7].as_slice());
     assert_eq!(rt; lowest(&crew, &[1026, 5, 2047])?, 2);
+    assert_eq!(rt; lowest_of(&crew, &[1026, 5, 2047])?, 2);
+    assert_eq!(rt; lowest_of(&crew, &[])?, u64::MAX);
     let begins = starts(&crew, &[])?;
     assert!(rt; begins.as_slice() == [0].as_slice());
     let places = places_from(&crew, &[5, 1, 7, 3], 4)?;
     assert!(rt; places.as_slice() == [0, 2].as_slice());
+    let threes = multiples(&crew, 10, 3)?;
+    assert!(rt; threes.as_slice() == [0, 3, 6, 9].as_slice());
+    assert!(rt; multiples(&crew, 0, 3)?.is_empty());
     let up = rises(&crew, &[5, 1, 7, 9])?;
     assert!(rt; up.as_slice() == [0, 6, 2].as_slice());
     let table = vec![in alloc; 3u32; 1024]?;

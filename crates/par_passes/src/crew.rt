@@ -3,14 +3,13 @@ ghost use Rattle.std.specs.Prelude.{◌≡◌, ℕ, ◌+◌, ◌<◌, ◌≤◌,
 ghost use Rattle.std.specs.Global.{Vec};
 ghost use Rattle.std.specs.List.{range_with_len};
 ghost use Rattle.std.specs.Result.{OnOk};
-ghost use Rattle.std.specs.Thread.{IsSync};
 ghost use Rattle.chunk_seats.specs.Claims.{fresh};
 ghost use Rattle.par_passes.specs.Crews.{Callable, Gave, Makes};
 
-use chunk_seats::{ClaimBoard, Gate, Plan, Seat};
+use chunk_seats::{ClaimBoard, Crew, Gate, Seat};
 use scan_lookback::assemble;
-use std::alloc::{AllocError, Global};
-use std::thread::{Threads, join};
+use std::alloc::AllocError;
+use std::thread::join;
 
 // What a group of workers leaves: its seat, and the chunks that it drew with what was made of each.
 #[derive(Drop)]
@@ -20,11 +19,10 @@ pub(crate) struct Made<U: Copy> {
 }
 
 // All that one worker does: it draws chunks until none is left.
-fn work<U: Copy, F: Fn(u64) -> Result<Vec<U>, AllocError>, G: Gate>(
-    alloc: Global,
+fn work<C: Crew, U: Copy, F: Fn(u64) -> Result<Vec<U>, AllocError>>(
+    crew: &C,
     claims: &ClaimBoard,
     mine: &mut Seat,
-    gate: &G,
     worker: u32,
     make: &F,
 ) -> Result<Vec<(u64, Vec<U>)>, AllocError>
@@ -37,13 +35,13 @@ fn work<U: Copy, F: Fn(u64) -> Result<Vec<U>, AllocError>, G: Gate>(
     ensures drawn { IfOk result (λ v. mine.new.view.claimed ≡ mine.old.view.claimed ++ map (λ p. p.0) v.items) }
     ensures lists { IfOk result (λ v. All (Gave claims.now.chunks (F.post make.now)) v.items) }
 {
-    let mut all = Vec::new(alloc);
+    let mut all = Vec::new(crew.alloc());
     while let Some(c) = claims.claim(mine) {
-        gate.after_claim(worker, Some(c));
+        crew.gate().after_claim(worker, Some(c));
         let list = make(c)?;
         all.push((c, list))?;
     }
-    gate.after_claim(worker, None);
+    crew.gate().after_claim(worker, None);
     Ok(all)
 }
 
@@ -73,17 +71,10 @@ fn merge<U: Copy, F: Fn(u64) -> Result<Vec<U>, AllocError>>(
 }
 
 // That many workers, each in a thread of its own where threads can be made.
-fn run<
-    U: Copy + Send + Sync,
-    F: Fn(u64) -> Result<Vec<U>, AllocError> + Sync,
-    G: Gate,
-    R: Threads + Sync,
->(
-    rt: &R,
-    alloc: Global,
+fn run<C: Crew, U: Copy + Send + Sync, F: Fn(u64) -> Result<Vec<U>, AllocError> + Sync>(
+    crew: &C,
     claims: &ClaimBoard,
     mut mine: Seat,
-    gate: &G,
     first: u32,
     workers: u32,
     make: &F,
@@ -95,7 +86,7 @@ fn run<
     ensures { IfOk result (λ r. Makes claims.now.chunks (F.post make.now) claims.now.board workers r) }
 {
     if workers == 1 {
-        let all = work(alloc, claims, &mut mine, gate, first, make)?;
+        let all = work(crew, claims, &mut mine, first, make)?;
         return Ok(Made { mine, all });
     }
     let half = workers / 2;
@@ -103,41 +94,32 @@ fn run<
     let after = first + rest;
     let theirs = claims.split(&mut mine, half);
     let (one, two) = join(
-        rt,
+        crew.runtime(),
         move || -> Result<Made<U>, AllocError>
-            requires { IsSync R.row × (mine.board ≡ claims.now.board) × (mine.view ≡ fresh rest) × (1 ≤ rest) × (first + rest ≤ 64) × Callable claims.now.chunks (F.pre make.now) }
+            requires { (mine.board ≡ claims.now.board) × (mine.view ≡ fresh rest) × (1 ≤ rest) × (first + rest ≤ 64) × Callable claims.now.chunks (F.pre make.now) }
             ensures { IfOk result (λ r. Makes claims.entry.now.chunks (F.post make.entry.now) claims.entry.now.board rest r) }
-        { run(rt, alloc, claims, mine, gate, first, rest, make) },
+        { run(crew, claims, mine, first, rest, make) },
         move || -> Result<Made<U>, AllocError>
-            requires { IsSync R.row × (theirs.board ≡ claims.now.board) × (theirs.view ≡ fresh half) × (1 ≤ half) × (after + half ≤ 64) × Callable claims.now.chunks (F.pre make.now) }
+            requires { (theirs.board ≡ claims.now.board) × (theirs.view ≡ fresh half) × (1 ≤ half) × (after + half ≤ 64) × Callable claims.now.chunks (F.pre make.now) }
             ensures { IfOk result (λ r. Makes claims.entry.now.chunks (F.post make.entry.now) claims.entry.now.board half r) }
-        { run(rt, alloc, claims, theirs, gate, after, half, make) },
+        { run(crew, claims, theirs, after, half, make) },
     );
     merge(claims, make, rest, half, one?, two?)
 }
 
-/// What is made of each chunk, one behind the other by number, for every plan and gate. `capacity` says how many values there will be.
+/// What is made of each chunk, one behind the other by number, for every crew. `capacity` says how many values there will be.
 pub(crate) fn by_chunks<
+    C: Crew,
     U: Copy + Send + Sync,
     F: Fn(u64) -> Result<Vec<U>, AllocError> + Sync,
-    G: Gate,
-    R: Threads + Sync,
->(
-    rt: &R,
-    alloc: Global,
-    plan: &Plan,
-    gate: &G,
-    count: usize,
-    capacity: usize,
-    make: &F,
-) -> Result<Vec<U>, AllocError>
+>(crew: &C, count: usize, capacity: usize, make: &F) -> Result<Vec<U>, AllocError>
     requires count { count < 2 ^ 62 }
     requires callable { All (F.pre make.now) (range_with_len 0 count) }
     ensures { IfOk result (λ v. (part : ℕ → List U) → ((c : ℕ) (x : Vec U) → c < count → F.post make.now c (Ok x) → x.items ≡ part c) → v.items ≡ flat_map part (range_with_len 0 count)) }
 {
-    let workers = (plan.workers as usize).min(count.max(1)) as u32;
-    let (claims, mine) = ClaimBoard::new(alloc, count as u64, workers)?;
-    let Made { mine, all } = run(rt, alloc, &claims, mine, gate, 0, workers, make)?;
+    let workers = (crew.plan().workers as usize).min(count.max(1)) as u32;
+    let (claims, mine) = ClaimBoard::new(crew.alloc(), count as u64, workers)?;
+    let Made { mine, all } = run(crew, &claims, mine, 0, workers, make)?;
     claims.close(mine);
-    assemble(alloc, count, capacity, all)
+    assemble(crew.alloc(), count, capacity, all)
 }

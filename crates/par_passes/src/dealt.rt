@@ -13,7 +13,7 @@ ghost use Rattle.par_passes.specs.Dealt.{Serves, InPlace, IsWhole};
 ghost use Rattle.par_passes.specs.Passes.{Gives};
 
 use crate::chunk::{chunk_start, count_chunks};
-use chunk_seats::{Gate, Plan};
+use chunk_seats::{Crew, Gate, Plan};
 use deal_board::{DealBoard, Goods, Returned, Seat};
 use list_parts::{Part, with_part};
 use std::alloc::{AllocError, Global};
@@ -144,16 +144,13 @@ fn glue_back<U: Copy, N: Goods<Part<U>>>(parts: Returned<Part<U>, N>) -> Part<U>
 
 // The parts, dealt to so many workers, filled and glued. Where there is no memory for the board, they come back.
 fn fill_parts<
+    C: Crew,
     U: Copy + Send + Sync,
     F: Fn(usize) -> U + Sync,
     N: Goods<Part<U>> + Send + Sync,
-    G: Gate,
-    R: Threads + Sync,
 >(
-    rt: &R,
-    alloc: Global,
+    crew: &C,
     workers: u32,
-    gate: &G,
     len: usize,
     size: u32,
     f: &F,
@@ -171,9 +168,19 @@ fn fill_parts<
     ensures whole { IfOk result (λ p. IsWhole (type_size U.row) N.items N.good p) }
     ensures back { IfErr result (λ v. v.items ≡ parts.items) }
 {
-    match DealBoard::<Part<U>, N>::new(alloc, parts, workers) {
+    match DealBoard::<Part<U>, N>::new(crew.alloc(), parts, workers) {
         Ok((board, mine)) => {
-            let mine = fill_all(rt, &board, mine, gate, 0, workers, len, size, f);
+            let mine = fill_all(
+                crew.runtime(),
+                &board,
+                mine,
+                crew.gate(),
+                0,
+                workers,
+                len,
+                size,
+                f,
+            );
             Ok(glue_back(board.close(mine)))
         }
         Err(parts) => Err(parts),
@@ -181,11 +188,9 @@ fn fill_parts<
 }
 
 // The same, where each part has a place for each item of its chunk.
-fn deal_parts<U: Copy + Send + Sync, F: Fn(usize) -> U + Sync, G: Gate, R: Threads + Sync>(
-    rt: &R,
-    alloc: Global,
+fn deal_parts<C: Crew, U: Copy + Send + Sync, F: Fn(usize) -> U + Sync>(
+    crew: &C,
     workers: u32,
-    gate: &G,
     len: usize,
     size: u32,
     f: &F,
@@ -205,16 +210,14 @@ fn deal_parts<U: Copy + Send + Sync, F: Fn(usize) -> U + Sync, G: Gate, R: Threa
     ensures values { IfOk result (λ p. Gives (F.post f.now) (range_with_len 0 len) (part_items p)) }
     ensures back { IfErr result (λ v. v.items ≡ parts.items) }
 {
-    fill_parts::<U, F, Brand, G, R>(rt, alloc, workers, gate, len, size, f, parts)
+    fill_parts::<C, U, F, Brand>(crew, workers, len, size, f, parts)
 }
 
 // The part filled with what the function gives for each item, of which the first is there already. Where there is no memory for the board, its
 // values are unknown.
-fn fill_whole<U: Copy + Send + Sync, F: Fn(usize) -> U + Sync, G: Gate, R: Threads + Sync>(
-    rt: &R,
-    alloc: Global,
+fn fill_whole<C: Crew, U: Copy + Send + Sync, F: Fn(usize) -> U + Sync>(
+    crew: &C,
     plan: &Plan,
-    gate: &G,
     len: usize,
     f: &F,
     whole: Part<U>,
@@ -232,7 +235,7 @@ fn fill_whole<U: Copy + Send + Sync, F: Fn(usize) -> U + Sync, G: Gate, R: Threa
     let count = count_chunks(len, size);
     let workers = (plan.workers as usize).min(count) as u32;
     let parts = whole.cut_all(size as usize, count, room);
-    match deal_parts(rt, alloc, workers, gate, len, size, f, parts) {
+    match deal_parts(crew, workers, len, size, f, parts) {
         Ok(filled) => (filled, Ok(())),
         Err(parts) => (Part::glue_all(parts), Err(AllocError)),
     }
@@ -263,11 +266,9 @@ fn begin_list<U: Copy, F: Fn(usize) -> U>(
 }
 
 // The list made of copies of the first value, and filled in place behind it, each chunk by the worker that draws it.
-fn fill_by_parts<U: Copy + Send + Sync, F: Fn(usize) -> U + Sync, G: Gate, R: Threads + Sync>(
-    rt: &R,
-    alloc: Global,
+fn fill_by_parts<C: Crew, U: Copy + Send + Sync, F: Fn(usize) -> U + Sync>(
+    crew: &C,
     plan: &Plan,
-    gate: &G,
     len: usize,
     f: &F,
 ) -> Result<Vec<U>, AllocError>
@@ -275,13 +276,13 @@ fn fill_by_parts<U: Copy + Send + Sync, F: Fn(usize) -> U + Sync, G: Gate, R: Th
     requires callable { All (F.pre f.now) (range_with_len 0 len) }
     ensures { IfOk result (λ v. Gives (F.post f.now) (range_with_len 0 len) v.items) }
 {
-    let room = Vec::with_capacity(alloc, count_chunks(len, plan.chunk))?;
-    let mut out = begin_list(alloc, len, f)?;
+    let room = Vec::with_capacity(crew.alloc(), count_chunks(len, plan.chunk))?;
+    let mut out = begin_list(crew.alloc(), len, f)?;
     let fill = |whole: Part<U>, room: Vec<Part<U>>| -> (Part<U>, Result<(), AllocError>)
         requires { (0 < len) × (len < 2 ^ 62) × All (F.pre f.now) (range_with_len 0 len) × (length (part_items whole) ≡ len) × Fits (type_size U.row) len × Gives (F.post f.now) (take 1 (range_with_len 0 len)) (take 1 (part_items whole)) × (room.items ≡ []) × (chunk_count plan.now.chunk len ≤ vec_capacity room) }
         ensures place { SamePlaces whole result.0 }
         ensures values { IfOk result.1 (λ _. Gives (F.post f.entry.now) (range_with_len 0 len) (part_items result.0)) }
-    { fill_whole(rt, alloc, plan, gate, len, f, whole, room) };
+    { fill_whole(crew, plan, len, f, whole, room) };
     with_part(out.as_mut_slice(), room, fill)?;
     Ok(out)
 }
@@ -306,10 +307,9 @@ fn extend_to<U: Copy, F: Fn(usize) -> U>(
 }
 
 // All that one worker does alone: the chunks in turn, each right behind the one before it.
-fn fill_in_turn<U: Copy, F: Fn(usize) -> U, G: Gate>(
-    alloc: Global,
+fn fill_in_turn<C: Crew, U: Copy, F: Fn(usize) -> U>(
+    crew: &C,
     plan: &Plan,
-    gate: &G,
     len: usize,
     f: &F,
 ) -> Result<Vec<U>, AllocError>
@@ -318,33 +318,33 @@ fn fill_in_turn<U: Copy, F: Fn(usize) -> U, G: Gate>(
     ensures { IfOk result (λ v. Gives (F.post f.now) (range_with_len 0 len) v.items) }
 {
     let first = f(0);
-    let mut out = Vec::with_capacity(alloc, len)?;
+    let mut out = Vec::with_capacity(crew.alloc(), len)?;
     out.push(first)?;
     for c in 0..count_chunks(len, plan.chunk) as u64 {
-        gate.after_claim(0, Some(c));
+        crew.gate().after_claim(0, Some(c));
         extend_to(&mut out, chunk_start(len, plan.chunk, c + 1), f)?;
     }
-    gate.after_claim(0, None);
+    crew.gate().after_claim(0, None);
     Ok(out)
 }
 
 /// What the function gives for the number of each place, by one call each.
-pub(crate) fn fill_by_number<
-    U: Copy + Send + Sync,
-    F: Fn(usize) -> U + Sync,
-    G: Gate,
-    R: Threads + Sync,
->(rt: &R, alloc: Global, plan: &Plan, gate: &G, len: usize, f: &F) -> Result<Vec<U>, AllocError>
+pub(crate) fn fill_by_number<C: Crew, U: Copy + Send + Sync, F: Fn(usize) -> U + Sync>(
+    crew: &C,
+    len: usize,
+    f: &F,
+) -> Result<Vec<U>, AllocError>
     requires len { len < 2 ^ 62 }
     requires callable { All (F.pre f.now) (range_with_len 0 len) }
     ensures { IfOk result (λ v. Gives (F.post f.now) (range_with_len 0 len) v.items) }
 {
     if len == 0 {
-        gate.after_claim(0, None);
-        return Ok(Vec::new(alloc));
+        crew.gate().after_claim(0, None);
+        return Ok(Vec::new(crew.alloc()));
     }
+    let plan = crew.plan();
     if plan.workers == 1 || len <= plan.chunk as usize {
-        return fill_in_turn(alloc, plan, gate, len, f);
+        return fill_in_turn(crew, &plan, len, f);
     }
-    fill_by_parts(rt, alloc, plan, gate, len, f)
+    fill_by_parts(crew, &plan, len, f)
 }

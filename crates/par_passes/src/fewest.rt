@@ -1,14 +1,17 @@
 //! The least key.
-ghost use Rattle.std.specs.Prelude.{◌≡◌, ◌+◌, ◌-◌, ◌<◌, ◌≤◌, ◌^◌, length, fold, min, IfOk};
-ghost use Rattle.std.specs.Thread.{IsSync};
+ghost use Rattle.std.specs.Prelude.{◌≡◌, ℕ, ◌+◌, ◌-◌, ◌<◌, ◌≤◌, ◌^◌, All, length, map, fold, min, slice_index_or, IfOk};
+ghost use Rattle.std.specs.List.{range_with_len};
+ghost use Rattle.chunk_seats.specs.Chunks.{chunk_of};
 ghost use Rattle.chunk_seats.specs.Claims.{fresh};
 ghost use Rattle.chunk_seats.specs.Offers.{silent};
 ghost use Rattle.par_passes.specs.Least.{least_key, Offers, IsDone};
 
-use crate::chunk::{chunk_slice, count_chunks};
-use chunk_seats::{ClaimBoard, Gate, LeastSeat, LeastWord, Plan, Seat};
-use std::alloc::{AllocError, Global};
-use std::thread::{Threads, join};
+use crate::chunk::{chunk_start, count_chunks};
+use chunk_seats::{ClaimBoard, Crew, Gate, LeastSeat, LeastWord, Seat};
+use scan_lookback::Lifted;
+use std::alloc::AllocError;
+use std::marker::Brand;
+use std::thread::join;
 
 // The two seats of one or more workers.
 #[derive(Drop)]
@@ -17,60 +20,82 @@ pub(crate) struct Team {
     pub mine: Seat,
 }
 
-// The least key of one chunk.
-fn least_of(part: &[u64]) -> u64
-    ensures { result ≡ least_key part.now }
+// The least key of so many numbers, from one on.
+fn least_between<F: Fn(usize) -> u64, K: Lifted<usize>>(f: &F, from: usize, count: usize) -> u64
+    requires room { from + count < 2 ^ 64 }
+    requires callable { All (F.pre f.now) (range_with_len from count) }
+    requires lifts { All (λ k. (r : ℕ) → F.post f.now k r → r ≡ K.code_of k) (range_with_len from count) }
+    ensures { result ≡ least_key (map K.code_of (range_with_len from count)) }
 {
     let mut least = u64::MAX;
-    for key in part {
-        least = least.min(*key);
+    for i in 0..count {
+        least = least.min(f(from + i));
     }
     least
 }
 
+// The least key of the numbers of one chunk.
+fn least_of_chunk<F: Fn(usize) -> u64, K: Lifted<usize>>(
+    f: &F,
+    len: usize,
+    size: u32,
+    c: u64,
+) -> u64
+    requires len { len < 2 ^ 62 }
+    requires callable { All (F.pre f.now) (range_with_len 0 len) }
+    requires lifts { All (λ k. (r : ℕ) → F.post f.now k r → r ≡ K.code_of k) (range_with_len 0 len) }
+    ensures { result ≡ least_key (chunk_of size (map K.code_of (range_with_len 0 len)) c) }
+{
+    let from = chunk_start(len, size, c);
+    least_between::<F, K>(f, from, (len - from).min(size as usize))
+}
+
 // All that one worker does: it offers the least key of each chunk that it draws.
-fn offer_chunks<G: Gate>(
+fn offer_chunks<C: Crew, F: Fn(usize) -> u64, K: Lifted<usize>>(
+    crew: &C,
     word: &LeastWord,
     claims: &ClaimBoard,
     seat: &mut LeastSeat,
     mine: &mut Seat,
     size: u32,
-    gate: &G,
     worker: u32,
-    keys: &[u64],
+    len: usize,
+    f: &F,
 )
     requires boards { (seat.old.board ≡ word.now.board) × (mine.old.board ≡ claims.now.board) }
     requires unspent { 0 < mine.old.view.share }
-    requires offers { Offers size keys.now mine.old.view.claimed seat.old.view.offered }
+    requires len { len < 2 ^ 62 }
+    requires callable { All (F.pre f.now) (range_with_len 0 len) }
+    requires lifts { All (λ k. (r : ℕ) → F.post f.now k r → r ≡ K.code_of k) (range_with_len 0 len) }
+    requires offers { Offers size (map K.code_of (range_with_len 0 len)) mine.old.view.claimed seat.old.view.offered }
     ensures boards { (seat.new.board ≡ seat.old.board) × (mine.new.board ≡ mine.old.board) }
     ensures shares { (seat.new.view.share ≡ seat.old.view.share) × (mine.new.view.weight ≡ mine.old.view.weight) }
     ensures spent { mine.new.view.share ≡ 0 }
-    ensures offers { Offers size keys.now mine.new.view.claimed seat.new.view.offered }
+    ensures offers { Offers size (map K.code_of (range_with_len 0 len)) mine.new.view.claimed seat.new.view.offered }
 {
     while let Some(c) = claims.claim(mine) {
-        gate.after_claim(worker, Some(c));
-        word.offer(seat, least_of(chunk_slice(keys, size, c)));
+        crew.gate().after_claim(worker, Some(c));
+        word.offer(seat, least_of_chunk::<F, K>(f, len, size, c));
     }
-    gate.after_claim(worker, None);
+    crew.gate().after_claim(worker, None);
 }
 
 // Two teams are one.
-fn merge(
+fn merge<K: Lifted<usize>>(
     word: &LeastWord,
     claims: &ClaimBoard,
     size: u32,
-    keys: &[u64],
+    len: usize,
     rest: u32,
     half: u32,
     one: Team,
     two: Team,
 ) -> Team
-    requires one { IsDone size keys.now word.now.board claims.now.board rest one }
-    requires two { IsDone size keys.now word.now.board claims.now.board half two }
-    ensures { IsDone size keys.now word.now.board claims.now.board (rest + half) result }
+    requires one { IsDone size (map K.code_of (range_with_len 0 len)) word.now.board claims.now.board rest one }
+    requires two { IsDone size (map K.code_of (range_with_len 0 len)) word.now.board claims.now.board half two }
+    ensures { IsDone size (map K.code_of (range_with_len 0 len)) word.now.board claims.now.board (rest + half) result }
 {
-    let _ = keys;
-    let _ = (size, rest, half);
+    let _ = (size, len, rest, half);
     let Team { mut seat, mut mine } = one;
     let Team {
         seat: other,
@@ -82,32 +107,36 @@ fn merge(
 }
 
 // That many workers, each in a thread of its own where threads can be made.
-fn run<G: Gate, R: Threads + Sync>(
-    rt: &R,
+fn run<C: Crew, F: Fn(usize) -> u64 + Sync, K: Lifted<usize> + Send + Sync>(
+    crew: &C,
     word: &LeastWord,
     claims: &ClaimBoard,
     mut team: Team,
     size: u32,
-    gate: &G,
     first: u32,
     workers: u32,
-    keys: &[u64],
+    len: usize,
+    f: &F,
 ) -> Team
     requires boards { (team.seat.board ≡ word.now.board) × (team.mine.board ≡ claims.now.board) }
     requires new { (team.seat.view ≡ silent workers) × (team.mine.view ≡ fresh workers) }
     requires workers { (1 ≤ workers) × (first + workers ≤ 64) }
-    ensures { IsDone size keys.now word.now.board claims.now.board workers result }
+    requires len { len < 2 ^ 62 }
+    requires callable { All (F.pre f.now) (range_with_len 0 len) }
+    requires lifts { All (λ k. (r : ℕ) → F.post f.now k r → r ≡ K.code_of k) (range_with_len 0 len) }
+    ensures { IsDone size (map K.code_of (range_with_len 0 len)) word.now.board claims.now.board workers result }
 {
     if workers == 1 {
-        offer_chunks(
+        offer_chunks::<C, F, K>(
+            crew,
             word,
             claims,
             &mut team.seat,
             &mut team.mine,
             size,
-            gate,
             first,
-            keys,
+            len,
+            f,
         );
         return team;
     }
@@ -119,38 +148,68 @@ fn run<G: Gate, R: Threads + Sync>(
         mine: claims.split(&mut team.mine, half),
     };
     let (one, two) = join(
-        rt,
+        crew.runtime(),
         move || -> Team
-            requires { IsSync R.row × (team.seat.board ≡ word.now.board) × (team.mine.board ≡ claims.now.board) × (team.seat.view ≡ silent rest) × (team.mine.view ≡ fresh rest) × (1 ≤ rest) × (first + rest ≤ 64) }
-            ensures { IsDone size keys.entry.now word.entry.now.board claims.entry.now.board rest result }
-        { run(rt, word, claims, team, size, gate, first, rest, keys) },
+            requires { (team.seat.board ≡ word.now.board) × (team.mine.board ≡ claims.now.board) × (team.seat.view ≡ silent rest) × (team.mine.view ≡ fresh rest) × (1 ≤ rest) × (first + rest ≤ 64) × (len < 2 ^ 62) × All (F.pre f.now) (range_with_len 0 len) × All (λ k. (r : ℕ) → F.post f.now k r → r ≡ K.code_of k) (range_with_len 0 len) }
+            ensures { IsDone size (map K.code_of (range_with_len 0 len)) word.entry.now.board claims.entry.now.board rest result }
+        { run::<C, F, K>(crew, word, claims, team, size, first, rest, len, f) },
         move || -> Team
-            requires { IsSync R.row × (other.seat.board ≡ word.now.board) × (other.mine.board ≡ claims.now.board) × (other.seat.view ≡ silent half) × (other.mine.view ≡ fresh half) × (1 ≤ half) × (after + half ≤ 64) }
-            ensures { IsDone size keys.entry.now word.entry.now.board claims.entry.now.board half result }
-        { run(rt, word, claims, other, size, gate, after, half, keys) },
+            requires { (other.seat.board ≡ word.now.board) × (other.mine.board ≡ claims.now.board) × (other.seat.view ≡ silent half) × (other.mine.view ≡ fresh half) × (1 ≤ half) × (after + half ≤ 64) × (len < 2 ^ 62) × All (F.pre f.now) (range_with_len 0 len) × All (λ k. (r : ℕ) → F.post f.now k r → r ≡ K.code_of k) (range_with_len 0 len) }
+            ensures { IsDone size (map K.code_of (range_with_len 0 len)) word.entry.now.board claims.entry.now.board half result }
+        { run::<C, F, K>(crew, word, claims, other, size, after, half, len, f) },
     );
-    merge(word, claims, size, keys, rest, half, one, two)
+    merge::<K>(word, claims, size, len, rest, half, one, two)
 }
 
-/// The least of the keys, and `u64::MAX` where there is none. It is the same for every plan and gate. The only refusal is that memory
-/// is out.
-pub(crate) fn least<G: Gate, R: Threads + Sync>(
-    rt: &R,
-    alloc: Global,
-    plan: &Plan,
-    gate: &G,
-    keys: &[u64],
+// The least key of the numbers below a length.
+fn least_by_number<C: Crew, F: Fn(usize) -> u64 + Sync, K: Lifted<usize> + Send + Sync>(
+    crew: &C,
+    len: usize,
+    f: &F,
 ) -> Result<u64, AllocError>
-    requires len { length keys.now < 2 ^ 62 }
-    ensures { IfOk result (λ m. m ≡ fold min (2 ^ 64 - 1) keys.now) }
+    requires len { len < 2 ^ 62 }
+    requires callable { All (F.pre f.now) (range_with_len 0 len) }
+    requires lifts { All (λ k. (r : ℕ) → F.post f.now k r → r ≡ K.code_of k) (range_with_len 0 len) }
+    ensures { IfOk result (λ m. m ≡ least_key (map K.code_of (range_with_len 0 len))) }
 {
-    let count = count_chunks(keys.len(), plan.chunk);
+    let plan = crew.plan();
+    let count = count_chunks(len, plan.chunk);
     let workers = (plan.workers as usize).min(count.max(1)) as u32;
-    let (claims, mine) = ClaimBoard::new(alloc, count as u64, workers)?;
-    let (word, seat) = LeastWord::new(alloc, workers)?;
+    let (claims, mine) = ClaimBoard::new(crew.alloc(), count as u64, workers)?;
+    let (word, seat) = LeastWord::new(crew.alloc(), workers)?;
     let team = Team { seat, mine };
-    let done = run(rt, &word, &claims, team, plan.chunk, gate, 0, workers, keys);
+    let done = run::<C, F, K>(crew, &word, &claims, team, plan.chunk, 0, workers, len, f);
     let Team { seat, mine } = done;
     claims.close(mine);
     Ok(word.close(seat))
+}
+
+/// The least of the keys, and `u64::MAX` where there is none. It is the same for every crew. The only refusal is that memory is out.
+pub(crate) fn least<C: Crew>(crew: &C, keys: &[u64]) -> Result<u64, AllocError>
+    requires len { length keys.now < 2 ^ 62 }
+    ensures { IfOk result (λ m. m ≡ fold min (2 ^ 64 - 1) keys.now) }
+{
+    let at = |k: usize| -> u64
+        requires { k < length keys.now }
+        ensures { result ≡ slice_index_or keys.entry.now k 0 }
+    { keys[k] };
+    least_by_number::<C, _, Brand>(crew, keys.len(), &at)
+}
+
+/// The least of what the function gives for the numbers below `count`, and `u64::MAX` where there is none. K names what it gives; the call
+/// passes `Brand` and picks it. It is the same for every crew. The only refusal is that memory is out.
+pub(crate) fn least_of<C: Crew, F: Fn(u32) -> u64 + Sync, K: Lifted<u32>>(
+    crew: &C,
+    count: u32,
+    f: &F,
+) -> Result<u64, AllocError>
+    requires callable { All (F.pre f.now) (range_with_len 0 count) }
+    requires lifts { All (λ k. (r : ℕ) → F.post f.now k r → r ≡ K.code_of k) (range_with_len 0 count) }
+    ensures { IfOk result (λ m. m ≡ fold min (2 ^ 64 - 1) (map K.code_of (range_with_len 0 count))) }
+{
+    let at = |k: usize| -> u64
+        requires { (k < 2 ^ 32) × F.pre f.now k }
+        ensures { F.post f.entry.now k result }
+    { f(k as u32) };
+    least_by_number::<C, _, Brand>(crew, count as usize, &at)
 }

@@ -13,7 +13,9 @@ mod order;
 mod passes;
 mod places;
 
-pub use passes::{Passes, Workers};
+pub use chunk::{chunk_start, count_chunks};
+pub use chunk_seats::{Crew, Workers};
+pub use passes::Passes;
 pub use scan_lookback::{Lift, Lifted};
 
 #[cfg(test)]

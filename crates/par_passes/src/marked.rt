@@ -6,9 +6,8 @@ ghost use Rattle.par_passes.specs.Passes.{marked};
 
 use crate::chunk::{chunk_slice, count_chunks};
 use crate::crew::by_chunks;
-use chunk_seats::{Gate, Plan};
+use chunk_seats::{Crew, Gate, Plan};
 use std::alloc::{AllocError, Global};
-use std::thread::Threads;
 
 // The value where it is to be kept, right behind what is in the list.
 pub(crate) fn push_if<T: Copy>(keep: bool, x: T, out: &mut Vec<T>) -> Result<(), AllocError>
@@ -66,10 +65,9 @@ fn keep_chunk<T: Copy>(
 }
 
 // All that one worker does alone: the chunks in turn, each right behind the one before it.
-fn keep_in_turn<T: Copy, G: Gate>(
-    alloc: Global,
+fn keep_in_turn<C: Crew, T: Copy>(
+    crew: &C,
     plan: &Plan,
-    gate: &G,
     items: &[T],
     marks: &[bool],
 ) -> Result<Vec<T>, AllocError>
@@ -77,21 +75,18 @@ fn keep_in_turn<T: Copy, G: Gate>(
     requires marks { length marks.now ≡ length items.now }
     ensures { IfOk result (λ v. v.items ≡ marked items.now marks.now) }
 {
-    let mut out = Vec::with_capacity(alloc, items.len())?;
+    let mut out = Vec::with_capacity(crew.alloc(), items.len())?;
     for c in 0..count_chunks(items.len(), plan.chunk) as u64 {
-        gate.after_claim(0, Some(c));
+        crew.gate().after_claim(0, Some(c));
         keep_chunk_onto(items, marks, plan.chunk, c, &mut out)?;
     }
-    gate.after_claim(0, None);
+    crew.gate().after_claim(0, None);
     Ok(out)
 }
 
-/// The items that are marked, in the items' order. It is the same for every plan and gate. The only refusal is that memory is out.
-pub(crate) fn compact<T: Copy + Send + Sync, G: Gate, R: Threads + Sync>(
-    rt: &R,
-    alloc: Global,
-    plan: &Plan,
-    gate: &G,
+/// The items that are marked, in the items' order. It is the same for every crew. The only refusal is that memory is out.
+pub(crate) fn compact<C: Crew, T: Copy + Send + Sync>(
+    crew: &C,
     items: &[T],
     marks: &[bool],
 ) -> Result<Vec<T>, AllocError>
@@ -99,14 +94,16 @@ pub(crate) fn compact<T: Copy + Send + Sync, G: Gate, R: Threads + Sync>(
     requires marks { length marks.now ≡ length items.now }
     ensures { IfOk result (λ v. v.items ≡ map (λ p. p.0) (filter (λ p. p.1) (zip items.now marks.now))) }
 {
+    let plan = crew.plan();
     let size = plan.chunk;
     if plan.workers == 1 || items.len() <= size as usize {
-        return keep_in_turn(alloc, plan, gate, items, marks);
+        return keep_in_turn(crew, &plan, items, marks);
     }
+    let alloc = crew.alloc();
     let make = |c: u64| -> Result<Vec<T>, AllocError>
         requires { length marks.now ≡ length items.now }
         ensures { IfOk result (λ v. v.items ≡ marked (chunk_of size items.entry.now c) (chunk_of size marks.entry.now c)) }
     { keep_chunk(alloc, items, marks, size, c) };
     let count = count_chunks(items.len(), size);
-    by_chunks(rt, alloc, plan, gate, count, items.len(), &make)
+    by_chunks(crew, count, items.len(), &make)
 }

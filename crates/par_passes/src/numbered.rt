@@ -1,95 +1,113 @@
 //! Passes over the numbers of items: their places, and values made from numbers.
-ghost use Rattle.std.specs.Prelude.{◌≡◌, ℕ, ◌+◌, ◌-◌, ◌*◌, ◌<◌, ◌≤◌, ◌^◌, ◌++◌, min, Bool, List, length, All, map, IfOk};
+ghost use Rattle.std.specs.Prelude.{◌≡◌, ℕ, ◌+◌, ◌-◌, ◌*◌, ◌<◌, ◌≤◌, ◌^◌, ◌++◌, min, Bool, List, length, All, map, filter, IfOk};
 ghost use Rattle.std.specs.List.{range_with_len};
 ghost use Rattle.chunk_seats.specs.Chunks.{chunk_of};
-ghost use Rattle.par_passes.specs.Passes.{Gives, marked};
+ghost use Rattle.par_passes.specs.Passes.{GaveAt, Gives, marked};
 
-use crate::chunk::{chunk_slice, chunk_start, count_chunks};
+use crate::chunk::{chunk_start, count_chunks};
 use crate::crew::by_chunks;
 use crate::dealt::fill_by_number;
 use crate::marked::push_if;
-use chunk_seats::{Gate, Plan};
+use chunk_seats::{Crew, Gate, Plan};
 use std::alloc::{AllocError, Global};
-use std::thread::Threads;
 
-// The places of the items for which the function says true, right behind what is in the list. The first item's place is `from`.
-fn find_onto<T: Copy, F: Fn(T) -> bool>(
-    part: &[T],
+// Those of so many numbers, from one on, for which the function says true, right behind what is in the list.
+fn choose_onto<F: Fn(usize) -> bool>(
     from: usize,
+    count: usize,
     f: &F,
     out: &mut Vec<u32>,
 ) -> Result<(), AllocError>
-    requires room { from + length part.now ≤ 2 ^ 32 }
-    requires callable { All (F.pre f.now) part.now }
-    ensures { IfOk result (λ _. (g : T → Bool) → All (λ x. (r : Bool) → F.post f.now x r → r ≡ g x) part.now → out.new.items ≡ out.old.items ++ marked (range_with_len from (length part.now)) (map g part.now)) }
+    requires room { from + count ≤ 2 ^ 32 }
+    requires callable { All (F.pre f.now) (range_with_len from count) }
+    ensures { IfOk result (λ _. (g : ℕ → Bool) → All (λ k. (r : Bool) → F.post f.now k r → r ≡ g k) (range_with_len from count) → out.new.items ≡ out.old.items ++ filter g (range_with_len from count)) }
 {
-    for (k, x) in part.iter().enumerate() {
-        push_if(f(*x), (from + k) as u32, out)?;
+    for i in 0..count {
+        push_if(f(from + i), (from + i) as u32, out)?;
     }
     Ok(())
 }
 
-// The same for a chunk of the items.
-fn find_chunk_onto<T: Copy, F: Fn(T) -> bool>(
-    items: &[T],
+// The same for a chunk of the numbers.
+fn choose_chunk_onto<F: Fn(usize) -> bool>(
+    len: usize,
     size: u32,
     c: u64,
     f: &F,
     out: &mut Vec<u32>,
 ) -> Result<(), AllocError>
-    requires len { length items.now ≤ 2 ^ 32 }
-    requires callable { All (F.pre f.now) items.now }
-    ensures { IfOk result (λ _. (g : T → Bool) → All (λ x. (r : Bool) → F.post f.now x r → r ≡ g x) items.now → out.new.items ≡ out.old.items ++ marked (chunk_of size (range_with_len 0 (length items.now)) c) (chunk_of size (map g items.now) c)) }
+    requires len { len ≤ 2 ^ 32 }
+    requires callable { All (F.pre f.now) (range_with_len 0 len) }
+    ensures { IfOk result (λ _. (g : ℕ → Bool) → All (λ k. (r : Bool) → F.post f.now k r → r ≡ g k) (range_with_len 0 len) → out.new.items ≡ out.old.items ++ filter g (chunk_of size (range_with_len 0 len) c)) }
 {
-    let from = chunk_start(items.len(), size, c);
-    find_onto(chunk_slice(items, size, c), from, f, out)
+    let from = chunk_start(len, size, c);
+    choose_onto(from, (len - from).min(size as usize), f, out)
 }
 
-// The places of one chunk.
-fn find_chunk<T: Copy, F: Fn(T) -> bool>(
+// The numbers of one chunk.
+fn choose_chunk<F: Fn(usize) -> bool>(
     alloc: Global,
-    items: &[T],
+    len: usize,
     size: u32,
     c: u64,
     f: &F,
 ) -> Result<Vec<u32>, AllocError>
-    requires len { length items.now ≤ 2 ^ 32 }
-    requires callable { All (F.pre f.now) items.now }
-    ensures { IfOk result (λ v. (g : T → Bool) → All (λ x. (r : Bool) → F.post f.now x r → r ≡ g x) items.now → v.items ≡ marked (chunk_of size (range_with_len 0 (length items.now)) c) (chunk_of size (map g items.now) c)) }
+    requires len { len ≤ 2 ^ 32 }
+    requires callable { All (F.pre f.now) (range_with_len 0 len) }
+    ensures { IfOk result (λ v. (g : ℕ → Bool) → All (λ k. (r : Bool) → F.post f.now k r → r ≡ g k) (range_with_len 0 len) → v.items ≡ filter g (chunk_of size (range_with_len 0 len) c)) }
 {
     let mut out = Vec::with_capacity(alloc, size as usize)?;
-    find_chunk_onto(items, size, c, f, &mut out)?;
+    choose_chunk_onto(len, size, c, f, &mut out)?;
     Ok(out)
 }
 
 // All that one worker does alone: the chunks in turn, each right behind the one before it.
-fn find_in_turn<T: Copy, F: Fn(T) -> bool, G: Gate>(
-    alloc: Global,
+fn choose_in_turn<C: Crew, F: Fn(usize) -> bool>(
+    crew: &C,
     plan: &Plan,
-    gate: &G,
-    items: &[T],
+    len: usize,
     f: &F,
 ) -> Result<Vec<u32>, AllocError>
-    requires len { length items.now ≤ 2 ^ 32 }
-    requires callable { All (F.pre f.now) items.now }
-    ensures { IfOk result (λ v. (g : T → Bool) → All (λ x. (r : Bool) → F.post f.now x r → r ≡ g x) items.now → v.items ≡ marked (range_with_len 0 (length items.now)) (map g items.now)) }
+    requires len { len ≤ 2 ^ 32 }
+    requires callable { All (F.pre f.now) (range_with_len 0 len) }
+    ensures { IfOk result (λ v. (g : ℕ → Bool) → All (λ k. (r : Bool) → F.post f.now k r → r ≡ g k) (range_with_len 0 len) → v.items ≡ filter g (range_with_len 0 len)) }
 {
-    let mut out = Vec::with_capacity(alloc, items.len())?;
-    for c in 0..count_chunks(items.len(), plan.chunk) as u64 {
-        gate.after_claim(0, Some(c));
-        find_chunk_onto(items, plan.chunk, c, f, &mut out)?;
+    let mut out = Vec::with_capacity(crew.alloc(), len)?;
+    for c in 0..count_chunks(len, plan.chunk) as u64 {
+        crew.gate().after_claim(0, Some(c));
+        choose_chunk_onto(len, plan.chunk, c, f, &mut out)?;
     }
-    gate.after_claim(0, None);
+    crew.gate().after_claim(0, None);
     Ok(out)
 }
 
-/// The places of the items for which the function says true, in order. They are the same for every plan and gate. The only refusal is
-/// that memory is out.
-pub(crate) fn positions<T: Copy + Sync, F: Fn(T) -> bool + Sync, G: Gate, R: Threads + Sync>(
-    rt: &R,
-    alloc: Global,
-    plan: &Plan,
-    gate: &G,
+// The numbers below a length for which the function says true, in order.
+fn choose<C: Crew, F: Fn(usize) -> bool + Sync>(
+    crew: &C,
+    len: usize,
+    f: &F,
+) -> Result<Vec<u32>, AllocError>
+    requires len { len ≤ 2 ^ 32 }
+    requires callable { All (F.pre f.now) (range_with_len 0 len) }
+    ensures { IfOk result (λ v. (g : ℕ → Bool) → All (λ k. (r : Bool) → F.post f.now k r → r ≡ g k) (range_with_len 0 len) → v.items ≡ filter g (range_with_len 0 len)) }
+{
+    let plan = crew.plan();
+    let size = plan.chunk;
+    if plan.workers == 1 || len <= size as usize {
+        return choose_in_turn(crew, &plan, len, f);
+    }
+    let alloc = crew.alloc();
+    let make = |c: u64| -> Result<Vec<u32>, AllocError>
+        requires { (len ≤ 2 ^ 32) × All (F.pre f.now) (range_with_len 0 len) }
+        ensures { IfOk result (λ v. (g : ℕ → Bool) → All (λ k. (r : Bool) → F.post f.entry.now k r → r ≡ g k) (range_with_len 0 len) → v.items ≡ filter g (chunk_of size (range_with_len 0 len) c)) }
+    { choose_chunk(alloc, len, size, c, f) };
+    by_chunks(crew, count_chunks(len, size), len, &make)
+}
+
+/// The places of the items for which the function says true, in order. They are the same for every crew. The only refusal is that
+/// memory is out.
+pub(crate) fn positions<C: Crew, T: Copy + Sync, F: Fn(T) -> bool + Sync>(
+    crew: &C,
     items: &[T],
     f: &F,
 ) -> Result<Vec<u32>, AllocError>
@@ -97,25 +115,34 @@ pub(crate) fn positions<T: Copy + Sync, F: Fn(T) -> bool + Sync, G: Gate, R: Thr
     requires callable { All (F.pre f.now) items.now }
     ensures { IfOk result (λ v. (g : T → Bool) → All (λ x. (r : Bool) → F.post f.now x r → r ≡ g x) items.now → v.items ≡ marked (range_with_len 0 (length items.now)) (map g items.now)) }
 {
-    let size = plan.chunk;
-    if plan.workers == 1 || items.len() <= size as usize {
-        return find_in_turn(alloc, plan, gate, items, f);
-    }
-    let make = |c: u64| -> Result<Vec<u32>, AllocError>
-        requires { (length items.now ≤ 2 ^ 32) × All (F.pre f.now) items.now }
-        ensures { IfOk result (λ v. (g : T → Bool) → All (λ x. (r : Bool) → F.post f.entry.now x r → r ≡ g x) items.entry.now → v.items ≡ marked (chunk_of size (range_with_len 0 (length items.entry.now)) c) (chunk_of size (map g items.entry.now) c)) }
-    { find_chunk(alloc, items, size, c, f) };
-    let count = count_chunks(items.len(), size);
-    by_chunks(rt, alloc, plan, gate, count, items.len(), &make)
+    let at = |k: usize| -> bool
+        requires { (k < length items.now) × All (F.pre f.now) items.now }
+        ensures { GaveAt (F.post f.entry.now) items.entry.now k result }
+    { f(items[k]) };
+    choose(crew, items.len(), &at)
+}
+
+/// The numbers below `count` for which the function says true, in order. They are the same for every crew. The only refusal is that memory
+/// is out.
+pub(crate) fn numbers_where<C: Crew, F: Fn(u32) -> bool + Sync>(
+    crew: &C,
+    count: u32,
+    f: &F,
+) -> Result<Vec<u32>, AllocError>
+    requires callable { All (F.pre f.now) (range_with_len 0 count) }
+    ensures { IfOk result (λ v. (g : ℕ → Bool) → All (λ k. (r : Bool) → F.post f.now k r → r ≡ g k) (range_with_len 0 count) → v.items ≡ filter g (range_with_len 0 count)) }
+{
+    let at = |k: usize| -> bool
+        requires { (k < 2 ^ 32) × F.pre f.now k }
+        ensures { F.post f.entry.now k result }
+    { f(k as u32) };
+    choose(crew, count as usize, &at)
 }
 
 /// What the function gives for each number below `count`, in order. It is called once for each number. Where it computes, the list is the
-/// same for every plan and gate. The only refusal is that memory is out.
-pub(crate) fn tabulate<U: Copy + Send + Sync, F: Fn(u32) -> U + Sync, G: Gate, R: Threads + Sync>(
-    rt: &R,
-    alloc: Global,
-    plan: &Plan,
-    gate: &G,
+/// same for every crew. The only refusal is that memory is out.
+pub(crate) fn tabulate<C: Crew, U: Copy + Send + Sync, F: Fn(u32) -> U + Sync>(
+    crew: &C,
     count: u32,
     f: &F,
 ) -> Result<Vec<U>, AllocError>
@@ -128,5 +155,5 @@ pub(crate) fn tabulate<U: Copy + Send + Sync, F: Fn(u32) -> U + Sync, G: Gate, R
         requires { (k < 2 ^ 32) × F.pre f.now k }
         ensures { F.post f.entry.now k result }
     { f(k as u32) };
-    fill_by_number(rt, alloc, plan, gate, count as usize, &at)
+    fill_by_number(crew, count as usize, &at)
 }

@@ -9,39 +9,21 @@ ghost use Rattle.par_passes.specs.Passes.{Gives, marked};
 
 use crate::crew::by_chunks;
 use crate::each::{map, map_lifted};
-use crate::fewest::least;
+use crate::fewest::{least, least_of};
 use crate::marked::compact;
-use crate::numbered::{positions, tabulate};
+use crate::numbered::{numbers_where, positions, tabulate};
 use crate::order::sorted;
 use crate::places::gather;
-use chunk_seats::{Gate, Plan};
+use chunk_seats::{Crew, Gate, Workers};
 use scan_lookback::{Lift, Lifted, scan, scan_lifted};
 use scatter_rows::scatter;
-use std::alloc::{AllocError, Global};
+use std::alloc::AllocError;
 use std::thread::Threads;
 use word_monoid::WordMonoid;
 
 /// A crew of workers that does passes over arrays. Each answer is the same for every plan and gate, and the only refusal is that
 /// memory is out. A function that does passes takes one value, `crew: &impl Passes`.
-pub trait Passes {
-    /// What makes the workers' threads.
-    type Runtime: Threads + Sync;
-
-    /// The kind of the hook.
-    type Hook: Gate;
-
-    /// What makes the workers' threads.
-    fn runtime(&self) -> &Self::Runtime;
-
-    /// Where the lists of the answers lie.
-    fn alloc(&self) -> Global;
-
-    /// How many workers there are, and how the work is cut.
-    fn plan(&self) -> Plan;
-
-    /// The hook that is called after each claim.
-    fn gate(&self) -> &Self::Hook;
-
+pub trait Passes: Crew {
     /// What the function gives for each item, in the items' order. It is called once for each.
     final fn map<T: Copy + Sync, U: Copy + Send + Sync, F: Fn(T) -> U + Sync>(
         &self,
@@ -54,14 +36,7 @@ pub trait Passes {
         ensures each { IfOk result (λ v. Gives (F.post f.now) items.now v.items) }
         ensures values { IfOk result (λ v. (g : T → U) → All (λ x. (r : U) → F.post f.now x r → r ≡ g x) items.now → v.items ≡ map g items.now) }
     {
-        map(
-            self.runtime(),
-            self.alloc(),
-            &self.plan(),
-            self.gate(),
-            items,
-            f,
-        )
+        map(self, items, f)
     }
 
     /// The same for a function that contracts can name.
@@ -73,14 +48,7 @@ pub trait Passes {
         requires len { length items.now < 2 ^ 62 }
         ensures { IfOk result (λ v. v.items ≡ map (L.lifted lift.now) items.now) }
     {
-        map_lifted(
-            self.runtime(),
-            self.alloc(),
-            &self.plan(),
-            self.gate(),
-            items,
-            lift,
-        )
+        map_lifted(self, items, lift)
     }
 
     /// The items that are marked, in the items' order.
@@ -93,14 +61,7 @@ pub trait Passes {
         requires marks { length marks.now ≡ length items.now }
         ensures { IfOk result (λ v. v.items ≡ map (λ p. p.0) (filter (λ p. p.1) (zip items.now marks.now))) }
     {
-        compact(
-            self.runtime(),
-            self.alloc(),
-            &self.plan(),
-            self.gate(),
-            items,
-            marks,
-        )
+        compact(self, items, marks)
     }
 
     /// The places of the items for which the function says true, in order.
@@ -113,14 +74,19 @@ pub trait Passes {
         requires callable { All (F.pre f.now) items.now }
         ensures { IfOk result (λ v. (g : T → Bool) → All (λ x. (r : Bool) → F.post f.now x r → r ≡ g x) items.now → v.items ≡ marked (range_with_len 0 (length items.now)) (map g items.now)) }
     {
-        positions(
-            self.runtime(),
-            self.alloc(),
-            &self.plan(),
-            self.gate(),
-            items,
-            f,
-        )
+        positions(self, items, f)
+    }
+
+    /// The numbers below `count` for which the function says true, in order.
+    final fn numbers_where<F: Fn(u32) -> bool + Sync>(
+        &self,
+        count: u32,
+        f: &F,
+    ) -> Result<Vec<u32>, AllocError>
+        requires callable { All (F.pre f.now) (range_with_len 0 count) }
+        ensures { IfOk result (λ v. (g : ℕ → Bool) → All (λ k. (r : Bool) → F.post f.now k r → r ≡ g k) (range_with_len 0 count) → v.items ≡ filter g (range_with_len 0 count)) }
+    {
+        numbers_where(self, count, f)
     }
 
     /// What the function gives for each number below `count`, in order. It is called once for each.
@@ -134,14 +100,7 @@ pub trait Passes {
         ensures each { IfOk result (λ v. Gives (F.post f.now) (range_with_len 0 count) v.items) }
         ensures values { IfOk result (λ v. (g : ℕ → U) → All (λ k. (r : U) → F.post f.now k r → r ≡ g k) (range_with_len 0 count) → v.items ≡ map g (range_with_len 0 count)) }
     {
-        tabulate(
-            self.runtime(),
-            self.alloc(),
-            &self.plan(),
-            self.gate(),
-            count,
-            f,
-        )
+        tabulate(self, count, f)
     }
 
     /// The item at each of the places, in the places' order.
@@ -154,14 +113,7 @@ pub trait Passes {
         requires in_range { All (λ p. p < length items.now) places.now }
         ensures { IfOk result (λ v. (d : T) → v.items ≡ map (λ p. slice_index_or items.now p d) places.now) }
     {
-        gather(
-            self.runtime(),
-            self.alloc(),
-            &self.plan(),
-            self.gate(),
-            items,
-            places,
-        )
+        gather(self, items, places)
     }
 
     /// The least of the keys, and `u64::MAX` where there is none.
@@ -169,13 +121,21 @@ pub trait Passes {
         requires len { length keys.now < 2 ^ 62 }
         ensures { IfOk result (λ m. m ≡ fold min (2 ^ 64 - 1) keys.now) }
     {
-        least(
-            self.runtime(),
-            self.alloc(),
-            &self.plan(),
-            self.gate(),
-            keys,
-        )
+        least(self, keys)
+    }
+
+    /// The least of what the function gives for the numbers below `count`, and `u64::MAX` where there is none. K names what it gives for a
+    /// number; the call passes `Brand` and picks it. No list of keys is made.
+    final fn least_of<F: Fn(u32) -> u64 + Sync, K: Lifted<u32>>(
+        &self,
+        count: u32,
+        f: &F,
+    ) -> Result<u64, AllocError>
+        requires callable { All (F.pre f.now) (range_with_len 0 count) }
+        requires lifts { All (λ k. (r : ℕ) → F.post f.now k r → r ≡ K.code_of k) (range_with_len 0 count) }
+        ensures { IfOk result (λ m. m ≡ fold min (2 ^ 64 - 1) (map K.code_of (range_with_len 0 count))) }
+    {
+        least_of::<Self, F, K>(self, count, f)
     }
 
     /// The keys in ascending order. Keys that are equal may stand in another order under another plan. One worker, and keys of one chunk, are
@@ -184,7 +144,7 @@ pub trait Passes {
         ensures same_keys { IfOk result (λ v. IsPermutation keys.now v.items) }
         ensures ascending { IfOk result (λ v. IsSorted K.cmp v.items) }
     {
-        sorted(self.runtime(), self.alloc(), &self.plan(), keys)
+        sorted(self, keys)
     }
 
     /// The join of what is made of the items before each item, and then the join of all: one more than there are items.
@@ -197,15 +157,7 @@ pub trait Passes {
         requires accepted { All (λ x. IsItem (M.ops monoid.now) (L.lifted lift.now x)) items.now }
         ensures { IfOk result (λ v. v.items ≡ prefixes (M.ops monoid.now) (map (L.lifted lift.now) items.now)) }
     {
-        scan_lifted(
-            self.runtime(),
-            self.alloc(),
-            &self.plan(),
-            self.gate(),
-            monoid,
-            items,
-            lift,
-        )
+        scan_lifted(self, monoid, items, lift)
     }
 
     /// The same for a closure. K names the code of what it gives for an item; the call passes `Brand` and picks it.
@@ -221,15 +173,7 @@ pub trait Passes {
         requires accepted { All (λ x. IsItem (M.ops monoid.now) ((M.ops monoid.now).decode (K.code_of x))) items.now }
         ensures { IfOk result (λ v. v.items ≡ prefixes (M.ops monoid.now) (map (λ x. (M.ops monoid.now).decode (K.code_of x)) items.now)) }
     {
-        scan::<T, M, F, Self::Hook, Self::Runtime, K>(
-            self.runtime(),
-            self.alloc(),
-            &self.plan(),
-            self.gate(),
-            monoid,
-            items,
-            lift,
-        )
+        scan::<Self, T, M, F, K>(self, monoid, items, lift)
     }
 
     /// What is made of each number below `count`, one list behind the other, in the order of the numbers. `capacity` says how many values
@@ -244,15 +188,7 @@ pub trait Passes {
         requires callable { All (F.pre make.now) (range_with_len 0 count) }
         ensures { IfOk result (λ v. (part : ℕ → List U) → ((c : ℕ) (x : Vec U) → c < count → F.post make.now c (Ok x) → x.items ≡ part c) → v.items ≡ flat_map part (range_with_len 0 count)) }
     {
-        by_chunks(
-            self.runtime(),
-            self.alloc(),
-            &self.plan(),
-            self.gate(),
-            count,
-            capacity,
-            make,
-        )
+        by_chunks(self, count, capacity, make)
     }
 
     /// The list of `len` cells in which each place holds its value, and every other cell 0.
@@ -268,49 +204,8 @@ pub trait Passes {
         requires small { All (λ v. v < 2 ^ 64 - 1) values.now }
         ensures { IfOk result (λ v. IsScattered places.now values.now len v.items) }
     {
-        scatter(
-            self.runtime(),
-            self.alloc(),
-            &self.plan(),
-            self.gate(),
-            places,
-            values,
-            len,
-        )
+        scatter(self, places, values, len)
     }
 }
 
-/// The workers of a runtime.
-#[derive_where(Clone, Copy)]
-pub struct Workers<'a, R, G> {
-    /// What makes their threads.
-    pub runtime: &'a R,
-    /// Where the lists of the answers lie.
-    pub alloc: Global,
-    /// How many there are, and how the work is cut.
-    pub plan: Plan,
-    /// The hook that is called after each claim.
-    pub gate: &'a G,
-}
-
-impl<R: Threads + Sync, G: Gate> Passes for Workers<'_, R, G> {
-    type Runtime = R;
-
-    type Hook = G;
-
-    fn runtime(&self) -> &R {
-        self.runtime
-    }
-
-    fn alloc(&self) -> Global {
-        self.alloc
-    }
-
-    fn plan(&self) -> Plan {
-        self.plan
-    }
-
-    fn gate(&self) -> &G {
-        self.gate
-    }
-}
+impl<R: Threads + Sync, G: Gate> Passes for Workers<'_, R, G> {}

@@ -1,6 +1,6 @@
 // The real streams as ends of the program. They tell no bytes, and count their faults.
 
-ghost use Rattle.std.specs.Prelude.{ℕ};
+ghost use Rattle.std.specs.Prelude.{◌≡◌, ℕ};
 
 use pareas_core::{ByteIn, ByteOut, Failed};
 use std::io::{Read, Write};
@@ -13,8 +13,10 @@ pub struct Reader<R: Read> {
 }
 
 impl<R: Read> Reader<R> {
-    /// An input from the stream.
-    pub fn new(stream: R) -> Self {
+    /// An input from the stream, without a fault so far.
+    pub fn new(stream: R) -> Self
+        ensures { result.faults ≡ 0 }
+    {
         Reader { stream, faults: 0 }
     }
 }
@@ -45,8 +47,10 @@ pub struct Writer<W: Write> {
 }
 
 impl<W: Write> Writer<W> {
-    /// An output to the stream.
-    pub fn new(stream: W) -> Self {
+    /// An output to the stream, without a fault so far.
+    pub fn new(stream: W) -> Self
+        ensures { result.faults ≡ 0 }
+    {
         Writer { stream, faults: 0 }
     }
 }

@@ -21,7 +21,7 @@ pub(crate) struct Compiled {
 
 /// The executable file of a source and the number of its tokens, or why it has no file.
 pub(crate) fn compile_counting(
-    crew: &(impl Passes + Sync),
+    crew: &impl Passes,
     source: &[u8],
 ) -> Result<Compiled, Refusal>
     ensures image { IfOk result (λ made. CompilesTo source.now made.file.items) }
@@ -39,7 +39,7 @@ pub(crate) fn compile_counting(
 
 /// The executable file of a source, or why it has none: its first diagnostic, or the limit that it passes. It is the same for every
 /// plan, gate and schedule, and the only other refusal is that memory is out.
-pub fn compile(crew: &(impl Passes + Sync), source: &[u8]) -> Result<Vec<u8>, Refusal>
+pub fn compile(crew: &impl Passes, source: &[u8]) -> Result<Vec<u8>, Refusal>
     // A file is the image of the program that the source is, and does on RV32IM what that program does.
     ensures image { IfOk result (λ file. CompilesTo source.now file.items) }
     // A refusal is what the definitions say of the source.

@@ -36,7 +36,7 @@ fn lines(alloc: Global, text: &[u8], made: &Compiled) -> Result<Vec<u8>, AllocEr
 
 /// Makes the text of the seed, compiles it, and runs its image: the sizes, and how the run ends.
 pub(crate) fn drill(
-    crew: &(impl Passes + Sync),
+    crew: &impl Passes,
     seed: u32,
     functions: u32,
 ) -> Result<Response, AllocError>

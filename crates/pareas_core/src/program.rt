@@ -13,7 +13,7 @@ use crate::status::Status;
 use crate::writing::write_all;
 use chunk_seats::Gate;
 use command_line::{Command, Refusal, Request, read};
-use front_end::MOST_SOURCE;
+use limits::MOST_SOURCE;
 use par_passes::Workers;
 use std::alloc::Global;
 use std::thread::Threads;

@@ -79,7 +79,7 @@ pub(crate) fn refused(
 }
 
 // The image of the source.
-fn build(crew: &(impl Passes + Sync), source: &[u8]) -> Result<Response, AllocError>
+fn build(crew: &impl Passes, source: &[u8]) -> Result<Response, AllocError>
     ensures { IfOk result (λ response. IsResponse Build source.now response) }
 {
     one_verdict();
@@ -94,7 +94,7 @@ fn build(crew: &(impl Passes + Sync), source: &[u8]) -> Result<Response, AllocEr
 }
 
 // How the image of the source runs.
-fn run(crew: &(impl Passes + Sync), source: &[u8], steps: u32) -> Result<Response, AllocError>
+fn run(crew: &impl Passes, source: &[u8], steps: u32) -> Result<Response, AllocError>
     ensures { IfOk result (λ response. IsResponse (Run steps) source.now response) }
 {
     one_verdict();
@@ -106,7 +106,7 @@ fn run(crew: &(impl Passes + Sync), source: &[u8], steps: u32) -> Result<Respons
 
 /// The answer to a command for the bytes that it read.
 pub(crate) fn respond(
-    crew: &(impl Passes + Sync),
+    crew: &impl Passes,
     command: Command,
     bytes: &[u8],
 ) -> Result<Response, AllocError>

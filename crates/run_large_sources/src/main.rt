@@ -3,66 +3,45 @@
 
 mod sources;
 
-use chunk_seats::OpenGate;
-use pareas_core::{MemoryIn, MemoryOut, pareas};
-use std::alloc::{AllocError, Global};
+use plan_trials::{call, is_one_answer};
+use std::alloc::Global;
 use std::io::{self, Write};
 use std::thread::Threads;
 
-/// Bytes that a read or a write moves at a time.
-const STEP: usize = 1 << 20;
-
-/// The words `pareas COMMAND`.
-fn words(alloc: Global, command: &str) -> Result<Vec<String>, AllocError> {
-    let mut words = Vec::new(alloc);
-    words.push(String::from_str(alloc, "pareas")?)?;
-    words.push(String::from_str(alloc, command)?)?;
-    Ok(words)
+/// Compiles the source, and prints how many bytes its image has, or why there is none.
+fn build<R: Threads + Print + Sync>(rt: &R, alloc: Global, source: &[u8]) -> io::Result<()> {
+    let written = call(rt, alloc, &["pareas", "build"], source)?;
+    if written.notes().is_empty() {
+        println!(rt; "an image of {} bytes", written.out().len())
+    } else {
+        io::writer(rt).write_all(written.notes())
+    }
 }
 
-/// Compiles the source, and prints how many bytes its image has, or why there is none.
-fn build<R: Threads + Print + Sync>(rt: &R, alloc: Global, source: Vec<u8>) -> io::Result<()> {
-    let words = words(alloc, "build")?;
-    let mut input = MemoryIn::new(source, STEP, Vec::new(alloc));
-    let mut out = MemoryOut::new(alloc, STEP, Vec::new(alloc));
-    let mut notes = MemoryOut::new(alloc, STEP, Vec::new(alloc));
-    pareas(
-        rt, alloc, &words, &mut input, &mut out, &mut notes, &OpenGate,
-    );
-    if notes.written().is_empty() {
-        println!(rt; "an image of {} bytes", out.written().len())
-    } else {
-        io::writer(rt).write_all(notes.written())
-    }
+/// Runs the command, and prints all that it writes.
+fn show<R: Threads + Print + Sync>(
+    rt: &R,
+    alloc: Global,
+    words: &[&str],
+    source: &[u8],
+) -> io::Result<()> {
+    let written = call(rt, alloc, words, source)?;
+    io::writer(rt).write_all(written.out())?;
+    io::writer(rt).write_all(written.notes())
 }
 
 /// Compiles and runs the source, and prints how it ends, or why it has no image.
 fn run<R: Threads + Print + Sync>(rt: &R, alloc: Global, source: Vec<u8>) -> io::Result<()> {
-    let words = words(alloc, "run")?;
-    let mut input = MemoryIn::new(source, STEP, Vec::new(alloc));
-    let mut out = MemoryOut::new(alloc, STEP, Vec::new(alloc));
-    let mut notes = MemoryOut::new(alloc, STEP, Vec::new(alloc));
-    pareas(
-        rt, alloc, &words, &mut input, &mut out, &mut notes, &OpenGate,
-    );
-    io::writer(rt).write_all(out.written())?;
-    io::writer(rt).write_all(notes.written())
+    show(rt, alloc, &["pareas", "run"], &source)
 }
 
-/// Prints the summary of a drill of so many functions.
-fn drill<R: Threads + Print + Sync>(rt: &R, alloc: Global, functions: &str) -> io::Result<()> {
-    let mut words = words(alloc, "drill")?;
-    for word in ["--seed", "1", "--functions", functions] {
-        words.push(String::from_str(alloc, word)?)?;
+/// Prints whether a build of the source comes to one answer under nine plans.
+fn compare<R: Threads + Print + Sync>(rt: &R, alloc: Global, source: &[u8]) -> io::Result<()> {
+    if is_one_answer(rt, alloc, source)? {
+        println!(rt; "the same under nine plans")
+    } else {
+        println!(rt; "another answer under another plan")
     }
-    let mut input = MemoryIn::new(Vec::new(alloc), STEP, Vec::new(alloc));
-    let mut out = MemoryOut::new(alloc, STEP, Vec::new(alloc));
-    let mut notes = MemoryOut::new(alloc, STEP, Vec::new(alloc));
-    pareas(
-        rt, alloc, &words, &mut input, &mut out, &mut notes, &OpenGate,
-    );
-    io::writer(rt).write_all(out.written())?;
-    io::writer(rt).write_all(notes.written())
 }
 
 fn at_the_limits<R: Threads + Print + Sync>(rt: &R, alloc: Global) -> io::Result<()> {
@@ -71,16 +50,20 @@ fn at_the_limits<R: Threads + Print + Sync>(rt: &R, alloc: Global) -> io::Result
     print!(rt; "one variable more: ")?;
     run(rt, alloc, sources::variables(alloc, 507)?)?;
     print!(rt; "code of 1,048,576 bytes: ")?;
-    build(rt, alloc, sources::zeros(alloc, 262_132)?)?;
-    print!(rt; "the same: ")?;
-    run(rt, alloc, sources::zeros(alloc, 262_132)?)?;
+    let most_code = sources::zeros(alloc, 262_132)?;
+    build(rt, alloc, &most_code)?;
+    run(rt, alloc, most_code)?;
     print!(rt; "one word more: ")?;
-    build(rt, alloc, sources::zeros(alloc, 262_133)?)?;
+    let more_code = sources::zeros(alloc, 262_133)?;
+    build(rt, alloc, &more_code)?;
+    compare(rt, alloc, &more_code)?;
     print!(rt; "a source of 1,048,576 bytes: ")?;
-    build(rt, alloc, sources::spaces(alloc, 1_048_576)?)?;
+    let most_source = sources::spaces(alloc, 1_048_576)?;
+    build(rt, alloc, &most_source)?;
     print!(rt; "one byte more: ")?;
-    build(rt, alloc, sources::spaces(alloc, 1_048_577)?)?;
-    Ok(())
+    let more_source = sources::spaces(alloc, 1_048_577)?;
+    build(rt, alloc, &more_source)?;
+    compare(rt, alloc, &more_source)
 }
 
 fn long_ones<R: Threads + Print + Sync>(rt: &R, alloc: Global) -> io::Result<()> {
@@ -150,5 +133,6 @@ fn main(rt: HostRuntime) -> io::Result<()> {
     long_ones(&rt, rt.alloc())?;
     deep_ones(&rt, rt.alloc())?;
     println!(rt; "the greatest drill:")?;
-    drill(&rt, rt.alloc(), "4096")
+    let words = ["pareas", "drill", "--seed", "1", "--functions", "4096"];
+    show(&rt, rt.alloc(), &words, b"")
 }

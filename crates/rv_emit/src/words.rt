@@ -12,12 +12,10 @@ use crate::fault::CodeError;
 use crate::laid::kept_children;
 use crate::unit::row_columns;
 use crate::write::write;
+use limits::MOST_CODE;
 use par_passes::Passes;
 use rv_select::{Columns, Places};
 use std::alloc::AllocError;
-
-// The most words that code may have.
-const MOST: u64 = 262144;
 
 // How many words there are: the last row, the program's own, has none.
 fn count_words(places: &[u32]) -> u64
@@ -64,8 +62,9 @@ pub fn emit(
 {
     let columns = row_columns(code);
     let words = count_words(places);
-    if words > MOST {
-        return Err(CodeError::Large { bytes: 4 * words });
+    let bytes = 4 * words;
+    if bytes > MOST_CODE {
+        return Err(CodeError::Large { bytes });
     }
     Ok(lay(crew, &columns, places, &code.meant, code.main, words)?)
 }

@@ -7,16 +7,15 @@ ghost use Rattle.scan_lookback.specs.Cuts.{Scans};
 use crate::chunk::chunk_slice;
 use crate::span::run_onto;
 use crate::views::Chunks;
-use chunk_seats::{Gate, Plan};
-use std::alloc::{AllocError, Global};
+use chunk_seats::{Crew, Gate, Plan};
+use std::alloc::AllocError;
 use word_monoid::WordMonoid;
 
 // All that one worker does alone: the joins before the items of each chunk in turn, right behind those of the chunk before. The gate is
 // told of each chunk.
-pub(crate) fn scan_alone<T: Copy, M: WordMonoid, N: Chunks<M::Item>, F: Fn(T) -> M::Item, G: Gate>(
-    alloc: Global,
+pub(crate) fn scan_alone<C: Crew, T: Copy, M: WordMonoid, N: Chunks<M::Item>, F: Fn(T) -> M::Item>(
+    crew: &C,
     plan: &Plan,
-    gate: &G,
     monoid: &M,
     items: &[T],
     lift: &F,
@@ -28,10 +27,10 @@ pub(crate) fn scan_alone<T: Copy, M: WordMonoid, N: Chunks<M::Item>, F: Fn(T) ->
     requires scans { Scans (M.ops monoid.now) (F.post lift.now) plan.now.chunk items.now N.items N.sums }
     ensures { IfOk result (λ v. v.items ≡ prefixes (M.ops monoid.now) N.items) }
 {
-    let mut out = Vec::with_capacity(alloc, items.len() + 1)?;
+    let mut out = Vec::with_capacity(crew.alloc(), items.len() + 1)?;
     let mut sum = monoid.unit();
     for c in 0..count as u64 {
-        gate.after_claim(0, Some(c));
+        crew.gate().after_claim(0, Some(c));
         sum = run_onto(
             monoid,
             chunk_slice(items, plan.chunk, c),
@@ -40,7 +39,7 @@ pub(crate) fn scan_alone<T: Copy, M: WordMonoid, N: Chunks<M::Item>, F: Fn(T) ->
             &mut out,
         )?;
     }
-    gate.after_claim(0, None);
+    crew.gate().after_claim(0, None);
     out.push(sum)?;
     Ok(out)
 }

@@ -10,9 +10,9 @@ use crate::board::{ScanBoard, Seat};
 use crate::fill::blank_list;
 use crate::made::{Begun, Made};
 use crate::views::Chunks;
-use chunk_seats::{ClaimBoard, Gate, Plan};
-use std::alloc::{AllocError, Global};
-use std::thread::{Threads, join};
+use chunk_seats::{ClaimBoard, Crew, Plan};
+use std::alloc::AllocError;
+use std::thread::join;
 use word_monoid::WordMonoid;
 
 // Two groups of workers are one.
@@ -46,23 +46,20 @@ fn merge<'a, M: WordMonoid, N: Chunks<M::Item>>(
 }
 
 // That many workers, each in a thread of its own where threads can be made.
-pub(crate) fn run<
+fn run<
     'a,
+    C: Crew,
     T: Copy + Sync,
     M: WordMonoid<Item: Send + Sync> + Sync,
     N: Chunks<M::Item> + Send + Sync,
     F: Fn(T) -> M::Item + Sync,
-    G: Gate,
-    R: Threads + Sync,
 >(
-    rt: &R,
-    alloc: Global,
+    crew: &C,
+    plan: &Plan,
     board: &ScanBoard<'a, M, N>,
     claims: &ClaimBoard,
     mut seat: Seat,
     mut mine: chunk_seats::Seat,
-    plan: &Plan,
-    gate: &G,
     first: u32,
     workers: u32,
     items: &[T],
@@ -77,7 +74,15 @@ pub(crate) fn run<
 {
     if workers == 1 {
         let starts = board.work_starts(
-            alloc, &mut seat, claims, &mut mine, plan, gate, first, items, lift,
+            crew.alloc(),
+            &mut seat,
+            claims,
+            &mut mine,
+            plan,
+            crew.gate(),
+            first,
+            items,
+            lift,
         )?;
         return Ok(Made { seat, mine, starts });
     }
@@ -87,21 +92,21 @@ pub(crate) fn run<
     let other = board.split(&mut seat, half);
     let theirs = claims.split(&mut mine, half);
     let (one, two) = join(
-        rt,
+        crew.runtime(),
         move || -> Result<Made<M::Item>, AllocError>
-            requires { IsSync R.row × (seat.board ≡ board.now.board) × (mine.board ≡ claims.now.board) × (claims.now.chunks ≡ board.now.chunks) × (seat.view ≡ blank rest) × (mine.view ≡ fresh rest) × (1 ≤ rest) × (first + rest ≤ 64) × All (F.pre lift.now) items.now × Scans (M.ops board.now.monoid) (F.post lift.now) plan.now.chunk items.now N.items N.sums }
+            requires { (seat.board ≡ board.now.board) × (mine.board ≡ claims.now.board) × (claims.now.chunks ≡ board.now.chunks) × (seat.view ≡ blank rest) × (mine.view ≡ fresh rest) × (1 ≤ rest) × (first + rest ≤ 64) × All (F.pre lift.now) items.now × Scans (M.ops board.now.monoid) (F.post lift.now) plan.now.chunk items.now N.items N.sums }
             ensures { IfOk result (λ r. Makes (M.ops board.entry.now.monoid) N.sums board.entry.now.board claims.entry.now.board rest r) }
         {
             run(
-                rt, alloc, board, claims, seat, mine, plan, gate, first, rest, items, lift,
+                crew, plan, board, claims, seat, mine, first, rest, items, lift,
             )
         },
         move || -> Result<Made<M::Item>, AllocError>
-            requires { IsSync R.row × (other.board ≡ board.now.board) × (theirs.board ≡ claims.now.board) × (claims.now.chunks ≡ board.now.chunks) × (other.view ≡ blank half) × (theirs.view ≡ fresh half) × (1 ≤ half) × (after + half ≤ 64) × All (F.pre lift.now) items.now × Scans (M.ops board.now.monoid) (F.post lift.now) plan.now.chunk items.now N.items N.sums }
+            requires { (other.board ≡ board.now.board) × (theirs.board ≡ claims.now.board) × (claims.now.chunks ≡ board.now.chunks) × (other.view ≡ blank half) × (theirs.view ≡ fresh half) × (1 ≤ half) × (after + half ≤ 64) × All (F.pre lift.now) items.now × Scans (M.ops board.now.monoid) (F.post lift.now) plan.now.chunk items.now N.items N.sums }
             ensures { IfOk result (λ r. Makes (M.ops board.entry.now.monoid) N.sums board.entry.now.board claims.entry.now.board half r) }
         {
             run(
-                rt, alloc, board, claims, other, theirs, plan, gate, after, half, items, lift,
+                crew, plan, board, claims, other, theirs, after, half, items, lift,
             )
         },
     );
@@ -111,19 +116,18 @@ pub(crate) fn run<
 // One worker, and a list for the answer, which it makes before.
 fn first_worker<
     'a,
+    C: Crew,
     T: Copy + Sync,
     M: WordMonoid<Item: Send + Sync> + Sync,
     N: Chunks<M::Item> + Send + Sync,
     F: Fn(T) -> M::Item + Sync,
-    G: Gate,
 >(
-    alloc: Global,
+    crew: &C,
+    plan: &Plan,
     board: &ScanBoard<'a, M, N>,
     claims: &ClaimBoard,
     mut seat: Seat,
     mut mine: chunk_seats::Seat,
-    plan: &Plan,
-    gate: &G,
     items: &[T],
     lift: &F,
 ) -> Result<Begun<M::Item>, AllocError>
@@ -135,9 +139,17 @@ fn first_worker<
     ensures made { IfOk result (λ r. Makes (M.ops board.now.monoid) N.sums board.now.board claims.now.board 1 r.made) }
     ensures list { IfOk result (λ r. length r.list.items ≡ length items.now) }
 {
-    let list = blank_list(alloc, board.monoid().unit(), items.len())?;
+    let list = blank_list(crew.alloc(), board.monoid().unit(), items.len())?;
     let starts = board.work_starts(
-        alloc, &mut seat, claims, &mut mine, plan, gate, 0, items, lift,
+        crew.alloc(),
+        &mut seat,
+        claims,
+        &mut mine,
+        plan,
+        crew.gate(),
+        0,
+        items,
+        lift,
     )?;
     let made = Made { seat, mine, starts };
     Ok(Begun { made, list })
@@ -146,21 +158,18 @@ fn first_worker<
 // All workers, two or more, of which the first makes the list for the answer, before it draws, while the others draw.
 pub(crate) fn begin<
     'a,
+    C: Crew,
     T: Copy + Sync,
     M: WordMonoid<Item: Send + Sync> + Sync,
     N: Chunks<M::Item> + Send + Sync,
     F: Fn(T) -> M::Item + Sync,
-    G: Gate,
-    R: Threads + Sync,
 >(
-    rt: &R,
-    alloc: Global,
+    crew: &C,
+    plan: &Plan,
     board: &ScanBoard<'a, M, N>,
     claims: &ClaimBoard,
     mut seat: Seat,
     mut mine: chunk_seats::Seat,
-    plan: &Plan,
-    gate: &G,
     workers: u32,
     items: &[T],
     lift: &F,
@@ -178,18 +187,18 @@ pub(crate) fn begin<
     let other = board.split(&mut seat, rest);
     let theirs = claims.split(&mut mine, rest);
     let (one, two) = join(
-        rt,
+        crew.runtime(),
         move || -> Result<Begun<M::Item>, AllocError>
             requires { (seat.board ≡ board.now.board) × (mine.board ≡ claims.now.board) × (claims.now.chunks ≡ board.now.chunks) × (seat.view ≡ blank 1) × (mine.view ≡ fresh 1) × All (F.pre lift.now) items.now × (length items.now < 2 ^ 62) × Scans (M.ops board.now.monoid) (F.post lift.now) plan.now.chunk items.now N.items N.sums }
             ensures made { IfOk result (λ r. Makes (M.ops board.entry.now.monoid) N.sums board.entry.now.board claims.entry.now.board 1 r.made) }
             ensures list { IfOk result (λ r. length r.list.items ≡ length items.entry.now) }
-        { first_worker(alloc, board, claims, seat, mine, plan, gate, items, lift) },
+        { first_worker(crew, plan, board, claims, seat, mine, items, lift) },
         move || -> Result<Made<M::Item>, AllocError>
-            requires { IsSync R.row × (other.board ≡ board.now.board) × (theirs.board ≡ claims.now.board) × (claims.now.chunks ≡ board.now.chunks) × (other.view ≡ blank rest) × (theirs.view ≡ fresh rest) × (1 ≤ rest) × (1 + rest ≤ 64) × All (F.pre lift.now) items.now × Scans (M.ops board.now.monoid) (F.post lift.now) plan.now.chunk items.now N.items N.sums }
+            requires { (other.board ≡ board.now.board) × (theirs.board ≡ claims.now.board) × (claims.now.chunks ≡ board.now.chunks) × (other.view ≡ blank rest) × (theirs.view ≡ fresh rest) × (1 ≤ rest) × (1 + rest ≤ 64) × All (F.pre lift.now) items.now × Scans (M.ops board.now.monoid) (F.post lift.now) plan.now.chunk items.now N.items N.sums }
             ensures { IfOk result (λ r. Makes (M.ops board.entry.now.monoid) N.sums board.entry.now.board claims.entry.now.board rest r) }
         {
             run(
-                rt, alloc, board, claims, other, theirs, plan, gate, 1, rest, items, lift,
+                crew, plan, board, claims, other, theirs, 1, rest, items, lift,
             )
         },
     );

@@ -13,10 +13,9 @@ use crate::made::{Begun, Made};
 use crate::place::in_order;
 use crate::run::begin;
 use crate::views::{Chunks, Lift, Lifted};
-use chunk_seats::{ClaimBoard, Gate, Plan};
-use std::alloc::{AllocError, Global};
+use chunk_seats::{ClaimBoard, Crew, Plan};
+use std::alloc::AllocError;
 use std::marker::Brand;
-use std::thread::Threads;
 use word_monoid::WordMonoid;
 
 // The laws, for a caller that starts threads.
@@ -68,21 +67,12 @@ fn chunks_each(count: usize, workers: u32) -> usize
 
 // The scan, where the run's lists have names.
 fn scan_named<
+    C: Crew,
     T: Copy + Sync,
     M: WordMonoid<Item: Send + Sync> + Sync,
     F: Fn(T) -> M::Item + Sync,
-    G: Gate,
-    R: Threads + Sync,
     N: Chunks<M::Item> + Send + Sync,
->(
-    rt: &R,
-    alloc: Global,
-    plan: &Plan,
-    gate: &G,
-    monoid: &M,
-    items: &[T],
-    lift: &F,
-) -> Result<Vec<M::Item>, AllocError>
+>(crew: &C, plan: &Plan, monoid: &M, items: &[T], lift: &F) -> Result<Vec<M::Item>, AllocError>
     requires len { length items.now < 2 ^ 62 }
     requires callable { All (F.pre lift.now) items.now }
     requires scans { Scans (M.ops monoid.now) (F.post lift.now) plan.now.chunk items.now N.items N.sums }
@@ -93,21 +83,21 @@ fn scan_named<
     let count = count_chunks(items.len(), plan.chunk);
     let workers = (plan.workers as usize).min(count.max(1)) as u32;
     if workers == 1 {
-        return scan_alone::<T, M, N, F, G>(alloc, plan, gate, monoid, items, lift, count);
+        return scan_alone::<C, T, M, N, F>(crew, plan, monoid, items, lift, count);
     }
-    let (claims, mine) = ClaimBoard::new(alloc, count as u64, workers)?;
-    let (board, seat) = ScanBoard::<M, N>::new(alloc, monoid, count as u64, workers)?;
+    let (claims, mine) = ClaimBoard::new(crew.alloc(), count as u64, workers)?;
+    let (board, seat) = ScanBoard::<M, N>::new(crew.alloc(), monoid, count as u64, workers)?;
     let Begun { made, list } = begin(
-        rt, alloc, &board, &claims, seat, mine, plan, gate, workers, items, lift,
+        crew, plan, &board, &claims, seat, mine, workers, items, lift,
     )?;
     let Made { seat, mine, starts } = made;
     board.close(seat);
     claims.close(mine);
-    let starts = in_order(alloc, count, starts)?;
+    let starts = in_order(crew.alloc(), count, starts)?;
     let per = chunks_each(count, workers);
     let mut out = list;
-    fill::<T, M, N, F, R>(
-        rt,
+    fill::<T, M, N, F, C::Runtime>(
+        crew.runtime(),
         monoid,
         items,
         lift,
@@ -127,46 +117,28 @@ fn scan_named<
 /// One worker goes through the items once. More workers draw chunks and find the join before each, as `work` does; then each fills a part of
 /// the list, in place.
 pub fn scan_lifted<
+    C: Crew,
     T: Copy + Sync,
     M: WordMonoid<Item: Send + Sync> + Sync,
     L: Lift<T, M::Item> + Sync,
-    G: Gate,
-    R: Threads + Sync,
->(
-    rt: &R,
-    alloc: Global,
-    plan: &Plan,
-    gate: &G,
-    monoid: &M,
-    items: &[T],
-    lift: &L,
-) -> Result<Vec<M::Item>, AllocError>
+>(crew: &C, monoid: &M, items: &[T], lift: &L) -> Result<Vec<M::Item>, AllocError>
     requires len { length items.now < 2 ^ 62 }
     requires accepted { All (λ x. IsItem (M.ops monoid.now) (L.lifted lift.now x)) items.now }
     ensures { IfOk result (λ v. v.items ≡ prefixes (M.ops monoid.now) (map (L.lifted lift.now) items.now)) }
 {
     know_laws(monoid);
     let lifted = |x: T| lift.lift(x);
-    scan_named::<T, M, _, G, R, Brand>(rt, alloc, plan, gate, monoid, items, &lifted)
+    scan_named::<C, T, M, _, Brand>(crew, &crew.plan(), monoid, items, &lifted)
 }
 
 /// The same for a closure. K names the code of what it gives for an item; the call passes `Brand` and picks it.
 pub fn scan<
+    C: Crew,
     T: Copy + Sync,
     M: WordMonoid<Item: Send + Sync> + Sync,
     F: Fn(T) -> M::Item + Sync,
-    G: Gate,
-    R: Threads + Sync,
     K: Lifted<T>,
->(
-    rt: &R,
-    alloc: Global,
-    plan: &Plan,
-    gate: &G,
-    monoid: &M,
-    items: &[T],
-    lift: &F,
-) -> Result<Vec<M::Item>, AllocError>
+>(crew: &C, monoid: &M, items: &[T], lift: &F) -> Result<Vec<M::Item>, AllocError>
     requires len { length items.now < 2 ^ 62 }
     requires callable { All (F.pre lift.now) items.now }
     requires lifts { All (λ x. (r : M.Item) → F.post lift.now x r → r ≡ (M.ops monoid.now).decode (K.code_of x)) items.now }
@@ -174,5 +146,5 @@ pub fn scan<
     ensures { IfOk result (λ v. v.items ≡ prefixes (M.ops monoid.now) (map (λ x. (M.ops monoid.now).decode (K.code_of x)) items.now)) }
 {
     know_laws(monoid);
-    scan_named::<T, M, F, G, R, Brand>(rt, alloc, plan, gate, monoid, items, lift)
+    scan_named::<C, T, M, F, Brand>(crew, &crew.plan(), monoid, items, lift)
 }

@@ -1,12 +1,28 @@
 //! Scans, for every kind of plan, and who works on them.
 use super::*;
-use chunk_seats::{Gate, OpenGate, Plan};
+use chunk_seats::{Gate, OpenGate, Plan, Workers};
 use std::alloc::Global;
 use std::marker::Brand;
 use std::process::Abort;
 use std::sync::atomic::{AtomicU64, Ordering};
 use std::test::*;
 use std::thread::Threads;
+
+// So many workers.
+fn crew<'a, R: Threads + Sync, G: Gate>(
+    rt: &'a R,
+    alloc: Global,
+    workers: u32,
+    chunk: u32,
+    gate: &'a G,
+) -> Result<Workers<'a, R, G>, Fail> {
+    Ok(Workers {
+        runtime: rt,
+        alloc,
+        plan: Plan::new(workers, chunk).ok_or("in range")?,
+        gate,
+    })
+}
 
 struct Same;
 
@@ -24,10 +40,10 @@ fn scans<R: Threads + Abort + Sync>(
     workers: u32,
     chunk: u32,
 ) -> Result<(), Fail> {
-    let plan = Plan::new(workers, chunk).ok_or("in range")?;
-    let all = scan_lifted(rt, alloc, &plan, &OpenGate, &Count, &[3, 1, 4, 1, 5], &Same)?;
+    let crew = crew(rt, alloc, workers, chunk, &OpenGate)?;
+    let all = scan_lifted(&crew, &Count, &[3, 1, 4, 1, 5], &Same)?;
     assert!(rt; all.as_slice() == [0, 3, 4, 8, 9, 14].as_slice());
-    let none = scan_lifted(rt, alloc, &plan, &OpenGate, &Count, &[], &Same)?;
+    let none = scan_lifted(&crew, &Count, &[], &Same)?;
     assert!(rt; none.as_slice() == [0].as_slice());
     Ok(())
 }
@@ -55,8 +71,8 @@ impl Lift<u64, u64> for One {
 
 #[test]
 fn a_thousand_ones(rt: HostRuntime) -> Result<(), Fail> {
-    let plan = Plan::new(64, 1).ok_or("in range")?;
-    let all = scan_lifted(&rt, rt.alloc(), &plan, &OpenGate, &Count, &[7; 1000], &One)?;
+    let crew = crew(&rt, rt.alloc(), 64, 1, &OpenGate)?;
+    let all = scan_lifted(&crew, &Count, &[7; 1000], &One)?;
     assert_eq!(rt; all.len(), 1001);
     for (i, sum) in all.iter().enumerate() {
         assert_eq!(rt; *sum, i as u64);
@@ -66,16 +82,8 @@ fn a_thousand_ones(rt: HostRuntime) -> Result<(), Fail> {
 
 #[test]
 fn by_a_closure(rt: HostRuntime) -> Result<(), Fail> {
-    let plan = Plan::new(2, 2).ok_or("in range")?;
-    let all = scan::<u64, Count, _, OpenGate, _, Brand>(
-        &rt,
-        rt.alloc(),
-        &plan,
-        &OpenGate,
-        &Count,
-        &[3, 1],
-        &|x: u64| x,
-    )?;
+    let crew = crew(&rt, rt.alloc(), 2, 2, &OpenGate)?;
+    let all = scan::<_, u64, Count, _, Brand>(&crew, &Count, &[3, 1], &|x: u64| x)?;
     assert!(rt; all.as_slice() == [0, 3, 4].as_slice());
     Ok(())
 }
@@ -104,14 +112,16 @@ impl Gate for Roll {
 fn rolls<R: Threads + Abort + Sync>(
     rt: &R,
     alloc: Global,
-    plan: &Plan,
+    workers: u32,
+    chunk: u32,
     items: &[u64],
 ) -> Result<(u64, u64), Fail> {
     let roll = Roll {
         ended: AtomicU64::new(0),
         drawn: AtomicU64::new(0),
     };
-    let _all = scan_lifted(rt, alloc, plan, &roll, &Count, items, &One)?;
+    let crew = crew(rt, alloc, workers, chunk, &roll)?;
+    let _all = scan_lifted(&crew, &Count, items, &One)?;
     Ok((
         roll.ended.load(Ordering::SeqCst),
         roll.drawn.load(Ordering::SeqCst),
@@ -120,15 +130,13 @@ fn rolls<R: Threads + Abort + Sync>(
 
 #[test]
 fn each_worker_tells_its_number(rt: HostRuntime) -> Result<(), Fail> {
-    let four = Plan::new(4, 1).ok_or("in range")?;
     assert_eq!(rt;
-        rolls(&rt, rt.alloc(), &four, &[3, 1, 4, 1, 5])?,
+        rolls(&rt, rt.alloc(), 4, 1, &[3, 1, 4, 1, 5])?,
         (0x0101_0101, 0b11111)
     );
     // no more workers than chunks, and one where there is none
-    let many = Plan::new(64, 2).ok_or("in range")?;
-    assert_eq!(rt; rolls(&rt, rt.alloc(), &many, &[3, 1, 4])?, (0x0101, 0b11));
-    assert_eq!(rt; rolls(&rt, rt.alloc(), &many, &[])?, (1, 0));
+    assert_eq!(rt; rolls(&rt, rt.alloc(), 64, 2, &[3, 1, 4])?, (0x0101, 0b11));
+    assert_eq!(rt; rolls(&rt, rt.alloc(), 64, 2, &[])?, (1, 0));
     Ok(())
 }
 
@@ -166,16 +174,8 @@ fn two_workers_meet(rt: HostRuntime) -> Result<(), Fail> {
         met: AtomicU64::new(0),
         alone: AtomicU64::new(0),
     };
-    let plan = Plan::new(2, 1).ok_or("in range")?;
-    let all = scan_lifted(
-        &rt,
-        rt.alloc(),
-        &plan,
-        &meeting,
-        &Count,
-        &[3, 1, 4, 1, 5],
-        &Same,
-    )?;
+    let crew = crew(&rt, rt.alloc(), 2, 1, &meeting)?;
+    let all = scan_lifted(&crew, &Count, &[3, 1, 4, 1, 5], &Same)?;
     assert!(rt; all.as_slice() == [0, 3, 4, 8, 9, 14].as_slice());
     assert_eq!(rt; meeting.alone.load(Ordering::SeqCst), 0);
     assert_eq!(rt; meeting.met.load(Ordering::SeqCst), 1);

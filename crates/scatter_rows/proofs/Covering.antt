@@ -26,9 +26,9 @@ covers_more count size claimed put put' c old kept new d i p from to near = dite
     (λ ne. kept i (old d i (omega (arith, times_snoc d claimed c, one_other d c ne)) from to near))
 
 pub covers_both : (count size : ℕ) (claimed claimed' put put' : List ℕ) → Covers count size claimed put → Covers count size claimed' put' → Covers count size (claimed ++ claimed') (put ++ put')
-covers_both count size claimed claimed' put put' one_crew other c i p from to near = dite (dec_le (times c claimed) 0)
+covers_both count size claimed claimed' put put' one_team other c i p from to near = dite (dec_le (times c claimed) 0)
     (λ none_left. omega (arith, times-append i put put', other c i (omega (arith, times-append c claimed claimed')) from to near))
-    (λ some_left. omega (arith, times-append i put put', one_crew c i (lt_of_not-le some_left) from to near))
+    (λ some_left. omega (arith, times-append i put put', one_team c i (lt_of_not-le some_left) from to near))
 
 pub all_put : (count size chunks counter : ℕ) (claimed put : List ℕ) → 0 < size → IsCut count size chunks → Covers count size claimed put → chunks ≤ counter → OnceBelow (min counter chunks) (λ n. times n claimed)
     → (i : ℕ) → i < count → 0 < times i put

@@ -2,4 +2,4 @@ pub mod Scattered
 pub mod Rule
 pub mod Held
 pub mod Worked
-pub mod Crews
+pub mod Teams

@@ -18,6 +18,12 @@ pub record IsCut (count size chunks : ℕ) : Type 0 where
 abbrev pub Covers : ℕ → ℕ → List ℕ → List ℕ → Type 0
 Covers count size claimed put = (c i : ℕ) → 0 < times c claimed → c * size ≤ i → i < c * size + size → i < count → 0 < times i put
 
+-- the values of the first n pairs are in their cells, and 0 is at each cell that is no place
+pub record HaveBeenPut (places values : List ℕ) (n words : ℕ) (cells : List ℕ) : Type 0 where
+  pub wide : length cells ≡ words
+  pub placed : (i : ℕ) → i < n → slice_index cells (slice_index places i) ≡ slice_index values i
+  pub free : (c : ℕ) → IsFree places c → slice_index cells c ≡ 0
+
 -- what is read out: the value at the place of each pair that was put, and 0 at each cell that is no place
 pub record IsReadOut (places values put cells : List ℕ) : Type 0 where
   pub placed : (i : ℕ) → 0 < times i put → slice_index cells (slice_index places i) ≡ slice_index values i

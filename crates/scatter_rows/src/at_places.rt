@@ -4,13 +4,13 @@ ghost use Rattle.std.specs.Result.{OnOk};
 ghost use Rattle.scatter_rows.specs.Scattered.{AreDistinct, IsScattered};
 ghost use Rattle.scatter_rows.specs.Worked.{AreFit, IsCut};
 
+use crate::alone::scatter_alone;
 use crate::cells::Cells;
-use crate::crew::{Crew, run};
+use crate::team::{Team, run};
 use crate::views::Pairs;
-use chunk_seats::{ClaimBoard, Gate, Plan};
-use std::alloc::{AllocError, Global};
+use chunk_seats::{ClaimBoard, Crew};
+use std::alloc::AllocError;
 use std::marker::Brand;
-use std::thread::Threads;
 
 /// What `scatter` promises holds of one list at most.
 pub fn scatter_is_unique()
@@ -27,11 +27,8 @@ fn chunk_count(len: usize, chunk: u32) -> u64
 }
 
 // Puts the values into as many cells as there are zeros, and reads the cells out in their place.
-fn scatter_into<N: Pairs + Send + Sync, G: Gate, R: Threads + Sync>(
-    rt: &R,
-    alloc: Global,
-    plan: &Plan,
-    gate: &G,
+fn scatter_into<C: Crew, N: Pairs + Send + Sync>(
+    crew: &C,
     places: &[u64],
     values: &[u64],
     cells: &mut [u64],
@@ -43,30 +40,38 @@ fn scatter_into<N: Pairs + Send + Sync, G: Gate, R: Threads + Sync>(
     requires distinct { AreDistinct N.places }
     ensures { OnOk result (IsScattered N.places N.values (length cells.old) cells.new) }
 {
+    let plan = crew.plan();
     let count = chunk_count(places.len(), plan.chunk);
     let workers = u64::from(plan.workers).min(count.max(1)) as u32;
-    let (claims, mine) = ClaimBoard::new(alloc, count, workers)?;
-    let (board, seat) = Cells::<N>::new(alloc, cells, workers)?;
-    let crew = Crew { seat, mine };
-    let crew = run(
-        rt, &board, &claims, crew, plan, gate, 0, workers, places, values,
+    let (claims, mine) = ClaimBoard::new(crew.alloc(), count, workers)?;
+    let (board, seat) = Cells::<N>::new(crew.alloc(), cells, workers)?;
+    let team = Team { seat, mine };
+    let team = run(
+        crew.runtime(),
+        &board,
+        &claims,
+        team,
+        &plan,
+        crew.gate(),
+        0,
+        workers,
+        places,
+        values,
     );
-    let Crew { seat, mine } = crew;
+    let Team { seat, mine } = team;
     claims.close(mine);
     board.close(seat, cells);
     Ok(())
 }
 
-/// The list of `len` cells in which each place holds its value, and every other cell 0. It is the same for every plan.
+/// The list of `len` cells in which each place holds its value, and every other cell 0. It is the same for every crew.
 ///
 /// Workers claim chunks of the pairs of a place and a value, and put the values into the words of one shared table, where a word
-/// is 0 before its value and the value plus 1 after it. There are at most as many workers as chunks, and one starts no thread.
-/// `gate` is told of each claim by the worker's number, which is below that of the workers, and once of its end.
-pub fn scatter<G: Gate, R: Threads + Sync>(
-    rt: &R,
-    alloc: Global,
-    plan: &Plan,
-    gate: &G,
+/// is 0 before its value and the value plus 1 after it. There are at most as many workers as chunks. One worker writes the values right
+/// into the list.
+/// The crew's gate is told of each claim by the worker's number, which is below that of the workers, and once of its end.
+pub fn scatter(
+    crew: &impl Crew,
     places: &[u64],
     values: &[u64],
     len: u64,
@@ -77,8 +82,13 @@ pub fn scatter<G: Gate, R: Threads + Sync>(
     requires small { All (λ v. v < 2 ^ 64 - 1) values.now }
     ensures { IfOk result (λ v. IsScattered places.now values.now len v.items) }
 {
-    let mut cells = Vec::from_elem(alloc, 0u64, len.max(1) as usize)?;
-    scatter_into::<Brand, G, R>(rt, alloc, plan, gate, places, values, cells.as_mut_slice())?;
+    let plan = crew.plan();
+    let mut cells = Vec::from_elem(crew.alloc(), 0u64, len.max(1) as usize)?;
+    if plan.workers == 1 || places.len() <= plan.chunk as usize {
+        scatter_alone(crew, plan.chunk, places, values, cells.as_mut_slice());
+    } else {
+        scatter_into::<_, Brand>(crew, places, values, cells.as_mut_slice())?;
+    }
     cells.truncate(len as usize);
     Ok(cells)
 }

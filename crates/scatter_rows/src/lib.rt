@@ -1,9 +1,10 @@
 //! Values that several workers write at places of one shared table of words.
 #![tactic(auto)]
 
+mod alone;
 mod at_places;
 mod cells;
-mod crew;
+mod team;
 mod views;
 mod work;
 

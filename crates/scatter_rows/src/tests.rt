@@ -1,5 +1,5 @@
 use super::*;
-use chunk_seats::{Gate, OpenGate, Plan};
+use chunk_seats::{Gate, OpenGate, Plan, Workers};
 use std::alloc::Global;
 use std::hint::spin_loop;
 use std::process::Abort;
@@ -7,18 +7,34 @@ use std::sync::atomic::{AtomicBool, AtomicU64, Ordering};
 use std::test::*;
 use std::thread::Threads;
 
+// So many workers.
+fn crew<'a, R: Threads + Sync, G: Gate>(
+    rt: &'a R,
+    alloc: Global,
+    workers: u32,
+    chunk: u32,
+    gate: &'a G,
+) -> Result<Workers<'a, R, G>, Fail> {
+    Ok(Workers {
+        runtime: rt,
+        alloc,
+        plan: Plan::new(workers, chunk).ok_or("in range")?,
+        gate,
+    })
+}
+
 fn scatters<R: Threads + Abort + Sync>(
     rt: &R,
     alloc: Global,
     workers: u32,
     chunk: u32,
 ) -> Result<(), Fail> {
-    let plan = Plan::new(workers, chunk).ok_or("in range")?;
-    let cells = scatter(rt, alloc, &plan, &OpenGate, &[2, 0], &[7, 9], 4)?;
+    let crew = crew(rt, alloc, workers, chunk, &OpenGate)?;
+    let cells = scatter(&crew, &[2, 0], &[7, 9], 4)?;
     assert!(rt; cells.as_slice() == [9, 0, 7, 0].as_slice());
-    let blank = scatter(rt, alloc, &plan, &OpenGate, &[], &[], 2)?;
+    let blank = scatter(&crew, &[], &[], 2)?;
     assert!(rt; blank.as_slice() == [0, 0].as_slice());
-    let none = scatter(rt, alloc, &plan, &OpenGate, &[], &[], 0)?;
+    let none = scatter(&crew, &[], &[], 0)?;
     assert!(rt; none.is_empty());
     Ok(())
 }
@@ -77,9 +93,9 @@ impl Gate for Meeting {
 
 #[test]
 fn two_workers_overlap(rt: HostRuntime) -> Result<(), Fail> {
-    let plan = Plan::new(2, 1).ok_or("in range")?;
     let gate = Meeting::new();
-    let cells = scatter(&rt, rt.alloc(), &plan, &gate, &[2, 0], &[7, 9], 4)?;
+    let crew = crew(&rt, rt.alloc(), 2, 1, &gate)?;
+    let cells = scatter(&crew, &[2, 0], &[7, 9], 4)?;
     assert!(rt; cells.as_slice() == [9, 0, 7, 0].as_slice());
     assert!(rt; gate.drawn.load(Ordering::SeqCst));
     assert!(rt; !gate.gave_up.load(Ordering::SeqCst));
@@ -112,7 +128,6 @@ fn reports<R: Threads + Abort + Sync>(
     workers: u32,
     chunk: u32,
 ) -> Result<(u64, u64, u64), Fail> {
-    let plan = Plan::new(workers, chunk).ok_or("in range")?;
     let gate = Tally {
         chunks: AtomicU64::new(0),
         ends: AtomicU64::new(0),
@@ -120,7 +135,8 @@ fn reports<R: Threads + Abort + Sync>(
     };
     let places = [3, 1, 4, 0, 2];
     let values = [10, 11, 12, 13, 14];
-    let cells = scatter(rt, alloc, &plan, &gate, &places, &values, 5)?;
+    let crew = crew(rt, alloc, workers, chunk, &gate)?;
+    let cells = scatter(&crew, &places, &values, 5)?;
     assert!(rt; cells.as_slice() == [13, 11, 14, 10, 12].as_slice());
     Ok((
         gate.chunks.load(Ordering::SeqCst),

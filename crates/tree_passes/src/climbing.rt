@@ -1,5 +1,5 @@
 //! Own tokens, parents and places of rows, and the keys of their faults, from kinds, words and sizes.
-ghost use Rattle.std.specs.Prelude.{◌≡◌, ◌-◌, ◌≤◌, ◌<◌, length, map, min, slice_index_or, IfOk};
+ghost use Rattle.std.specs.Prelude.{◌≡◌, ◌-◌, ◌^◌, ◌≤◌, ◌<◌, length, map, fold, min, slice_index_or, IfOk};
 ghost use Rattle.std.specs.List.{range_with_len};
 ghost use Rattle.tree_passes.specs.Reading.{low_of, number_in, parent_of, place_of as place_by, settled_of, waits_of};
 ghost use Rattle.tree_passes.specs.RowFaults.{fault_word, kind_at};
@@ -10,6 +10,7 @@ use crate::places::{place_of, settled};
 use par_passes::Passes;
 use source_meaning::Kind;
 use std::alloc::AllocError;
+use std::marker::Brand;
 
 /// The words of the rows' own tokens.
 pub(crate) fn tokens_all(
@@ -115,16 +116,16 @@ fn number_of(word: u32) -> u32
     if word == u32::MAX { 0 } else { word }
 }
 
-/// The keys of the rows' faults.
-pub(crate) fn fault_keys(
+/// The least key of the rows' faults, and the greatest number where there is none.
+pub(crate) fn least_fault(
     crew: &impl Passes,
     kinds: &[Kind],
     sizes: &[u32],
     tokens: &[u32],
-) -> Result<Vec<u64>, AllocError>
+) -> Result<u64, AllocError>
     requires few { length kinds.now ≤ 536870914 }
     requires sizes { length sizes.now ≡ length kinds.now }
-    ensures { IfOk result (λ v. v.items ≡ map (λ k. fault_word (kind_at kinds.now k) kinds.now sizes.now k (number_in (slice_index_or tokens.now k 0))) (range_with_len 0 (length kinds.now))) }
+    ensures { IfOk result (λ key. key ≡ fold min (2 ^ 64 - 1) (map (λ k. fault_word (kind_at kinds.now k) kinds.now sizes.now k (number_in (slice_index_or tokens.now k 0))) (range_with_len 0 (length kinds.now)))) }
 {
     let at = |k: u32| -> u64
         requires { (k < length kinds.now) × (length sizes.now ≡ length kinds.now) }
@@ -133,5 +134,5 @@ pub(crate) fn fault_keys(
         let k = k as usize;
         fault_of(kinds, sizes, k, number_of(number(tokens, k)))
     };
-    crew.tabulate(kinds.len() as u32, &at)
+    crew.least_of::<_, Brand>(kinds.len() as u32, &at)
 }

@@ -18,7 +18,7 @@ ghost use Rattle.tree_passes.specs.TokensOf.{AreOwned, no_token};
 ghost use Rattle.tree_passes.specs.TreeColumns.{AreClosing, AreRowColumns, AreSmall, AreTreeColumns, IsLeastKey, IsParseOf};
 ghost use Rattle.tree_passes.specs.declared.fault.ShapeFault.TheVariants.{Diagnostic as Told};
 
-use crate::climbing::{fault_keys, lows_all, parents_all, places_all, tokens_all};
+use crate::climbing::{least_fault, lows_all, parents_all, places_all, tokens_all};
 use crate::fault::ShapeFault;
 use crate::joining::{made_all, makers, row_sums};
 use crate::laid::lay;
@@ -181,13 +181,12 @@ fn least_key(crew: &impl Passes, columns: &Columns) -> Result<u64, AllocError>
     requires sizes { length columns.now.sizes.items ≡ length columns.now.kinds.items }
     ensures { IfOk result (λ key. (ms : List Mark) → AreRowColumns ms columns.now.kinds.items columns.now.sizes.items columns.now.tokens.items → AreSmall ms → key ≡ fold min (2 ^ 64 - 1) (keys_of ms)) }
 {
-    let keys = fault_keys(
+    least_fault(
         crew,
         columns.kinds.as_slice(),
         columns.sizes.as_slice(),
         columns.tokens.as_slice(),
-    )?;
-    crew.least(keys.as_slice())
+    )
 }
 
 // The fault that a key stands for.

@@ -1,4 +1,5 @@
-use Rattle.std.proofs.Common.{◌≡◌, ◌<◌, ◌-◌, length}
+use Rattle.std.proofs.Common.{◌≡◌, ◌<◌, ◌-◌, length, map}
+use Rattle.std.specs.List.{range_with_len}
 use Rattle.par_passes.specs.Least.{Offers}
 use Rattle.par_passes.proofs.fewest.offer_chunks.Given as goal
 
@@ -9,7 +10,7 @@ invariant-loop-c g l = record {
   share : l.seat.view.share ≡ l.initial.seat.view.share;
   weight : l.mine.view.weight ≡ l.initial.mine.view.weight;
   unspent : 0 < l.mine.view.share;
-  offers : Offers l.size l.keys l.mine.view.claimed l.seat.view.offered;
+  offers : Offers l.size (map g.K.Lifted.code_of (range_with_len 0 l.len)) l.mine.view.claimed l.seat.view.offered;
 }
 
 abbrev pub decreases-loop-c : goal.decreases-loop-c

@@ -1,16 +1,12 @@
-use Rattle.std.proofs.Common.{◌∙◌, ap, sym, map, filter, length}
-use Rattle.std.specs.List.{range_with_len, zip}
-use Rattle.std.proofs.lemmas.List.FromFn.{length-range_with_len}
-use Rattle.chunk_seats.specs.Chunks.{chunk_of, chunk_count}
-use Rattle.par_passes.proofs.Together.{if_ok, marked_together, marked_chunk}
-use Rattle.par_passes.proofs.Marking.{as_many}
+use Rattle.std.proofs.Common.{◌<◌, All, length}
+use Rattle.par_passes.proofs.Choosing.{chosen_places}
+use Rattle.par_passes.proofs.Giving.{all_numbers}
+use Rattle.par_passes.proofs.Together.{if_ok}
+use Rattle.par_passes.proofs.numbered.positions.Given as given
 use Rattle.par_passes.proofs.numbered.positions.Goals as goal
 
+pub choose-requires-clause-callable : goal.choose-requires-clause-callable
+choose-requires-clause-callable g c = λ κs within. all_numbers (λ k. (k < length c.args.items.now) × All (given.F-pre g c.args.f.now) c.args.items.now) (length c.args.items.now) (λ k less. (less, c.requires.callable))
+
 pub returns : goal.returns
-returns g c =
-    let size = c.args.plan.now.chunk in
-    let n = length c.args.items.now in
-    let places = range_with_len 0 n in
-    if_ok c.by_chunks.result c.by_chunks.ensures (λ v whole h computes.
-    whole (λ k. map (λ p. p.0) (filter (λ p. p.1) (chunk_of size (zip places (map h c.args.items.now)) k))) (λ k x near gave. gave h computes ∙ marked_chunk size places (map h c.args.items.now) k)
-    ∙ marked_together size places (map h c.args.items.now) c.args.plan.now.chunk_in_range.0 (as_many h c.args.items.now) c.count_chunks-count.result (c.count_chunks-count.ensures ∙ ap (chunk_count size) (sym (length-range_with_len 0 n))))
+returns g c = if_ok c.choose.result c.choose.ensures (λ v chosen h computes. chosen_places (given.F-post g c.args.f.now) c.args.items.now h computes v.items chosen)

@@ -4,9 +4,9 @@ use Rattle.scan_lookback.proofs.single_pass.scan.Goals as goal
 pub scan_named-requires-clause-scans : goal.scan_named-requires-clause-scans
 scan_named-requires-clause-scans g c = λ κs within.
     let m = c.args.monoid.now in
-    scans_of (g.M.WordMonoid.ops m) (λ x. (g.M.WordMonoid.ops m).decode (g.K.Lifted.code_of x)) c.args.items.now c.requires.accepted c.args.plan.now.chunk c.args.plan.now.chunk_in_range.0 _ c.requires.lifts
+    scans_of (g.M.WordMonoid.ops m) (λ x. (g.M.WordMonoid.ops m).decode (g.K.Lifted.code_of x)) c.args.items.now c.requires.accepted c.plan.result.chunk c.plan.result.chunk_in_range.0 _ c.requires.lifts
 
 pub scan_named-requires-clause-names : goal.scan_named-requires-clause-names
 scan_named-requires-clause-names g c = λ κs within.
     let m = c.args.monoid.now in
-    names_of (g.M.WordMonoid.ops m) (λ x. (g.M.WordMonoid.ops m).decode (g.K.Lifted.code_of x)) c.args.items.now c.requires.accepted c.args.plan.now.chunk c.args.plan.now.chunk_in_range.0 c.know_laws.ensures
+    names_of (g.M.WordMonoid.ops m) (λ x. (g.M.WordMonoid.ops m).decode (g.K.Lifted.code_of x)) c.args.items.now c.requires.accepted c.plan.result.chunk c.plan.result.chunk_in_range.0 c.know_laws.ensures

@@ -1,7 +1,7 @@
 use Rattle.std.proofs.Common.{ℕ, ap, ◌∙◌, arith}
 use Rattle.chunk_seats.specs.Claims.{shares}
 use Rattle.scatter_rows.proofs.Covering.{covers_both, covers_as}
-use Rattle.scatter_rows.proofs.crew.merge.Goals as goal
+use Rattle.scatter_rows.proofs.team.merge.Goals as goal
 
 pub returns : goal.returns
 returns g c =

@@ -4,7 +4,7 @@ ghost use Rattle.std.specs.Thread.{IsSync};
 ghost use Rattle.chunk_seats.specs.Claims.{fresh};
 ghost use Rattle.scatter_rows.specs.Rule.{idle};
 ghost use Rattle.scatter_rows.specs.Worked.{AreFit, IsCut};
-ghost use Rattle.scatter_rows.specs.Crews.{IsDone};
+ghost use Rattle.scatter_rows.specs.Teams.{IsDone};
 
 use crate::cells::{Cells, Seat};
 use crate::views::Pairs;
@@ -13,12 +13,12 @@ use std::thread::{Threads, join};
 
 /// The two seats of one or more workers.
 #[derive(Drop)]
-pub(crate) struct Crew {
+pub(crate) struct Team {
     pub seat: Seat,
     pub mine: chunk_seats::Seat,
 }
 
-// Two crews are one.
+// Two teams are one.
 fn merge<N: Pairs>(
     cells: &Cells<N>,
     claims: &ClaimBoard,
@@ -26,23 +26,23 @@ fn merge<N: Pairs>(
     size: u32,
     rest: u32,
     half: u32,
-    one: Crew,
-    two: Crew,
-) -> Crew
+    one: Team,
+    two: Team,
+) -> Team
     requires words { 0 < cells.now.board.words }
     requires one { IsDone count size cells.now.board claims.now.board rest one }
     requires two { IsDone count size cells.now.board claims.now.board half two }
     ensures { IsDone count size cells.now.board claims.now.board (rest + half) result }
 {
     let _ = (count, size, rest, half);
-    let Crew { mut seat, mut mine } = one;
-    let Crew {
+    let Team { mut seat, mut mine } = one;
+    let Team {
         seat: other,
         mine: theirs,
     } = two;
     cells.join(&mut seat, other);
     claims.join(&mut mine, theirs);
-    Crew { seat, mine }
+    Team { seat, mine }
 }
 
 /// That many workers, each in a thread of its own where threads can be made.
@@ -50,17 +50,17 @@ pub(crate) fn run<N: Pairs + Send + Sync, G: Gate, R: Threads + Sync>(
     rt: &R,
     cells: &Cells<N>,
     claims: &ClaimBoard,
-    mut crew: Crew,
+    mut team: Team,
     plan: &Plan,
     gate: &G,
     first: u32,
     workers: u32,
     places: &[u64],
     values: &[u64],
-) -> Crew
+) -> Team
     requires words { 0 < cells.now.board.words }
-    requires boards { (crew.seat.board ≡ cells.now.board) × (crew.mine.board ≡ claims.now.board) }
-    requires new { (crew.seat.view ≡ idle workers) × (crew.mine.view ≡ fresh workers) }
+    requires boards { (team.seat.board ≡ cells.now.board) × (team.mine.board ≡ claims.now.board) }
+    requires new { (team.seat.view ≡ idle workers) × (team.mine.view ≡ fresh workers) }
     requires workers { (1 ≤ workers) × (first + workers ≤ 64) }
     requires pairs { (places.now ≡ N.places) × (values.now ≡ N.values) }
     requires fit { AreFit cells.now.board.words N.places N.values }
@@ -69,35 +69,35 @@ pub(crate) fn run<N: Pairs + Send + Sync, G: Gate, R: Threads + Sync>(
 {
     if workers == 1 {
         cells.work(
-            &mut crew.seat,
+            &mut team.seat,
             claims,
-            &mut crew.mine,
+            &mut team.mine,
             plan,
             gate,
             first,
             places,
             values,
         );
-        return crew;
+        return team;
     }
     let half = workers / 2;
     let rest = workers - half;
     let after = first + rest;
-    let other = Crew {
-        seat: cells.split(&mut crew.seat, half),
-        mine: claims.split(&mut crew.mine, half),
+    let other = Team {
+        seat: cells.split(&mut team.seat, half),
+        mine: claims.split(&mut team.mine, half),
     };
     let (one, two) = join(
         rt,
-        move || -> Crew
-            requires { IsSync R.row × (0 < cells.now.board.words) × (crew.seat.board ≡ cells.now.board) × (crew.mine.board ≡ claims.now.board) × (crew.seat.view ≡ idle rest) × (crew.mine.view ≡ fresh rest) × (1 ≤ rest) × (first + rest ≤ 64) × (places.now ≡ N.places) × (values.now ≡ N.values) × AreFit cells.now.board.words N.places N.values × IsCut (length places.now) plan.now.chunk claims.now.chunks }
+        move || -> Team
+            requires { IsSync R.row × (0 < cells.now.board.words) × (team.seat.board ≡ cells.now.board) × (team.mine.board ≡ claims.now.board) × (team.seat.view ≡ idle rest) × (team.mine.view ≡ fresh rest) × (1 ≤ rest) × (first + rest ≤ 64) × (places.now ≡ N.places) × (values.now ≡ N.values) × AreFit cells.now.board.words N.places N.values × IsCut (length places.now) plan.now.chunk claims.now.chunks }
             ensures { IsDone (length places.entry.now) plan.entry.now.chunk cells.entry.now.board claims.entry.now.board rest result }
         {
             run(
-                rt, cells, claims, crew, plan, gate, first, rest, places, values,
+                rt, cells, claims, team, plan, gate, first, rest, places, values,
             )
         },
-        move || -> Crew
+        move || -> Team
             requires { IsSync R.row × (0 < cells.now.board.words) × (other.seat.board ≡ cells.now.board) × (other.mine.board ≡ claims.now.board) × (other.seat.view ≡ idle half) × (other.mine.view ≡ fresh half) × (1 ≤ half) × (after + half ≤ 64) × (places.now ≡ N.places) × (values.now ≡ N.values) × AreFit cells.now.board.words N.places N.values × IsCut (length places.now) plan.now.chunk claims.now.chunks }
             ensures { IsDone (length places.entry.now) plan.entry.now.chunk cells.entry.now.board claims.entry.now.board half result }
         {

@@ -1,4 +1,4 @@
-use Rattle.scatter_rows.proofs.crew.+fn-run-join+arg2+fn-run-join+arg3+run.Given as goal
+use Rattle.scatter_rows.proofs.team.+fn-run-join+arg2+fn-run-join+arg3+run.Given as goal
 
 abbrev pub decreases-join+arg2 : goal.decreases-join+arg2
 decreases-join+arg2 g l = l.rest

@@ -1,0 +1,8 @@
+use Rattle.std.proofs.Common.{◌<◌, ◌^◌, arith}
+use Rattle.par_passes.proofs.Giving.{all_numbers, each_number}
+use Rattle.par_passes.proofs.fewest.least_of.Given as given
+use Rattle.par_passes.proofs.fewest.least_of.Goals as goal
+
+pub least_by_number-requires-clause-callable : goal.least_by_number-requires-clause-callable
+least_by_number-requires-clause-callable g c = λ κs within.
+    all_numbers (λ k. (k < 2 ^ 32) × given.F-pre g c.args.f.now k) c.args.count (λ k less. (omega (arith, c.ranges.count.fits), each_number (given.F-pre g c.args.f.now) c.args.count c.requires.callable k less))

@@ -1,0 +1,75 @@
+//! Calls of `pareas` over memory, and whether its answer is one under every plan: for the programs that run sources for the gate.
+#![tactic(auto)]
+
+use chunk_seats::OpenGate;
+use pareas_core::{MemoryIn, MemoryOut, pareas};
+use std::alloc::{AllocError, Global};
+use std::thread::Threads;
+
+/// Bytes that a read or a write moves at a time.
+const STEP: usize = 1 << 20;
+
+/// The numbers of workers, each of which makes a plan with each size of chunks.
+const WORKERS: [&str; 3] = ["1", "4", "64"];
+
+const CHUNKS: [&str; 3] = ["1", "7", "65536"];
+
+/// What a call of the program has written.
+#[derive(Drop)]
+pub struct Written {
+    out: MemoryOut,
+    notes: MemoryOut,
+}
+
+impl Written {
+    /// What was written to the output.
+    pub fn out(&self) -> &[u8] {
+        self.out.written()
+    }
+
+    /// What was written to the notes.
+    pub fn notes(&self) -> &[u8] {
+        self.notes.written()
+    }
+
+    // Whether the same bytes were written.
+    fn is_same(&self, other: &Written) -> bool {
+        self.out() == other.out() && self.notes() == other.notes()
+    }
+}
+
+/// What the program writes for these words, its name first, and this input.
+pub fn call<R: Threads + Sync>(
+    rt: &R,
+    alloc: Global,
+    words: &[&str],
+    source: &[u8],
+) -> Result<Written, AllocError> {
+    let mut all = Vec::with_capacity(alloc, words.len())?;
+    for word in words {
+        all.push(String::from_str(alloc, word)?)?;
+    }
+    let mut input = MemoryIn::new(source.to_vec(alloc)?, STEP, Vec::new(alloc));
+    let mut out = MemoryOut::new(alloc, STEP, Vec::new(alloc));
+    let mut notes = MemoryOut::new(alloc, STEP, Vec::new(alloc));
+    pareas(rt, alloc, &all, &mut input, &mut out, &mut notes, &OpenGate);
+    Ok(Written { out, notes })
+}
+
+/// Whether a build of the source comes to one answer under all plans, and where the words name none.
+pub fn is_one_answer<R: Threads + Sync>(
+    rt: &R,
+    alloc: Global,
+    source: &[u8],
+) -> Result<bool, AllocError> {
+    let by_default = call(rt, alloc, &["pareas", "build"], source)?;
+    for workers in WORKERS {
+        for chunk in CHUNKS {
+            let words = ["pareas", "build", "--workers", workers, "--chunk", chunk];
+            if !call(rt, alloc, &words, source)?.is_same(&by_default) {
+                return Ok(false);
+            }
+        }
+    }
+    Ok(true)
+}
