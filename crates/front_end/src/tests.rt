@@ -285,11 +285,11 @@ fn names_in_great_numbers(rt: HostRuntime) -> Result<(), Fail> {
         alloc,
         b"var x: int = 1; ",
         b"{ var x: int = x; } ",
-        5_000,
+        20_000,
         b"",
         0,
     )?;
-    let many = many_names(alloc, 5_000)?;
+    let many = many_names(alloc, 20_000)?;
     for source in [nested.as_slice(), apart.as_slice(), many.as_slice()] {
         match front(&crew, source) {
             Ok(_) => {}
@@ -300,7 +300,7 @@ fn names_in_great_numbers(rt: HostRuntime) -> Result<(), Fail> {
         alloc,
         b"var x: int = 1; ",
         b"{ var x: int = x; } ",
-        5_000,
+        20_000,
         b"var x: int = 2; ",
         1,
     )?;
@@ -310,7 +310,7 @@ fn names_in_great_numbers(rt: HostRuntime) -> Result<(), Fail> {
             refusal,
             Refusal::Diagnostic {
                 code: 402,
-                at: 100_037
+                at: 400_037
             }
         ),
     }

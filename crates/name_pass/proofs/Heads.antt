@@ -1,6 +1,6 @@
 -- The first eight bytes of names as numbers, what follows them and how many there are tell the names' order.
 use denote.Ref.{Bor}
-use Rattle.std.proofs.Common.{◌≡◌, ℕ, zero, suc, ◌+◌, ◌*◌, ◌<◌, ◌≤◌, ◌⊎◌, inl, inr, true, false, List, [], ◌∷◌, length, All, refl, sym, ap, subst, ◌∙◌, arith}
+use Rattle.std.proofs.Common.{◌≡◌, ℕ, zero, suc, ◌+◌, ◌*◌, ◌<◌, ◌≤◌, ◌⊎◌, inl, inr, Bool, true, false, List, [], ◌∷◌, length, All, refl, sym, ap, subst, ◌∙◌, arith}
 use Rattle.std.specs.Prelude.{slice_index_or, take, drop, bytes_eq, IsSorted}
 use Rattle.std.specs.declared.cmp.Ordering.{Ordering}
 use Rattle.std.specs.declared.cmp.Ordering.TheVariants.{Less, Equal, Greater}
@@ -18,6 +18,9 @@ use Rattle.name_pass.specs.Spelling.{part_of}
 use Rattle.name_pass.specs.Keys.{key_bytes, key_tail, key_at, with_digits, head_of, name_cmp, short_cmp, key_cmp, is_before, IsHeaded}
 use Rattle.row_rules.proofs.Shown.{false_if}
 use Rattle.name_pass.proofs.Ordered.{same_names, keys_parted}
+
+abbrev pub no_key : NameKey
+no_key = record { head = 0; text = record { ref_ptr = (0, 0); now = [] }; start = 0; length = 0; row = 0; is_variable = false }
 
 pub any_default : {T : Type 0} (xs : List T) (k : ℕ) (d e : T) → k < length xs → slice_index_or xs k d ≡ slice_index_or xs k e
 any_default [] k d e l = absurd (omega arith)
@@ -216,12 +219,12 @@ small_first (suc n) (x ∷ xs) s (suc k) = small_first n xs (small_rest x xs s) 
 pub small_part : (text : List ℕ) (start len : ℕ) → Small text → Small (part_of text start len)
 small_part text start len s = small_first len (drop start text) (small_behind start text s)
 
-module _ (text : Bor (List ℕ)) (start len row : ℕ) where
+module _ (text : Bor (List ℕ)) (start len row : ℕ) (variable : Bool) where
   -- a length is cut at the text's end
-  pub bytes_made : key_bytes (key_at text start len row) ≡ part_of text.now start len
+  pub bytes_made : key_bytes (key_at text start len row variable) ≡ part_of text.now start len
   bytes_made = ap (λ (n : ℕ). take n (drop start text.now)) (length-take len (drop start text.now)) ∙ take_min len (drop start text.now)
 
-  pub headed_made : Small (part_of text.now start len) → IsHeaded (key_at text start len row)
+  pub headed_made : Small (part_of text.now start len) → IsHeaded (key_at text start len row variable)
   headed_made s = record {
     head_is = ap head_of (sym bytes_made);
     length_is = ap length (sym bytes_made);

@@ -13,14 +13,15 @@ use crate::behind::minima_of_ends;
 use crate::counts::numbers;
 use crate::fault::NameFault;
 use crate::fault_keys::main_key;
-use crate::found::{found, least_key, meant};
+use crate::found::{found, least_key};
 use crate::scopes::Scopes;
-use crate::sorted::{declarations, functions};
+use crate::sorted::{parted, sorted_keys};
 use ast_rows::{Names, Rows, Tokens};
 use par_passes::Passes;
 
 /// What the names of a program mean, from its rows, their tokens and the text; or its first fault of scope. They are the same for
-/// every plan and gate. The only other refusal is that memory is out.
+/// every plan and gate. The only other refusal is that memory is out. At a row that declares something stands what its own name finds
+/// there: the variable that it hides, or the first function of its name.
 pub fn resolve(
     crew: &impl Passes,
     text: &[u8],
@@ -33,20 +34,19 @@ pub fn resolve(
     ensures ok { IfOk result (λ n. (p : Source) → rows.now ≡ post p → IsFormed (length tokens.now) (spelled text.now tokens.now) p → (scope_faults (length tokens.now) p ≡ []) × AreNames p (λ k. slice_index_or n.meant k None) (λ k. slice_index_or n.numbers k 0) n.main) }
     ensures fault { (code at : ℕ) → result ≡ Err (Told code at) → (p : Source) → rows.now ≡ post p → IsFormed (length tokens.now) (spelled text.now tokens.now) p → earliest (scope_faults (length tokens.now) p) ≡ Some (record { at = at; code = code }) }
 {
-    let declarations = declarations(crew, text, tokens, rows)?;
-    let functions = functions(crew, text, tokens, rows)?;
-    let ends = minima_of_ends(crew, rows, &declarations)?;
+    let keys = sorted_keys(crew, text, tokens, rows)?;
+    let (functions, declarations) = parted(&keys);
+    let ends = minima_of_ends(crew, rows, declarations)?;
     let scopes = Scopes {
         text,
         tokens,
         rows,
-        declarations: &declarations,
-        functions: &functions,
+        declarations,
+        functions,
         ends: &ends,
     };
-    let words = found(crew, &scopes)?;
-    let meant = meant(crew, rows, &words)?;
-    let key = least_key(crew, rows, &words)?;
+    let meant = found(crew, &scopes)?;
+    let key = least_key(crew, rows, &meant)?;
     let numbers = numbers(crew, rows.kinds())?;
     let main = scopes.main();
     answer(

@@ -148,8 +148,8 @@ fn bindings<R: Abort>(rt: &R, crew: &impl Passes) -> Result<(), Fail> {
             assert!(rt;
                 names.meant()
                     == [
-                        NONE, 0, NONE, NONE, NONE, NONE, NONE, 6, 4, NONE, 9, NONE, NONE, 6, NONE,
-                        NONE, NONE, NONE
+                        NONE, 0, NONE, NONE, 4, NONE, NONE, 6, 4, 6, 9, NONE, NONE, 6, NONE, NONE,
+                        16, NONE
                     ]
                     .as_slice()
             );

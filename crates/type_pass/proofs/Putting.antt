@@ -1,10 +1,10 @@
 -- What is put at the parents of rows, row by row.
-use Rattle.std.proofs.Common.{◌≡◌, ◌≢◌, inl, inr, ℕ, ◌+◌, ◌^◌, ◌<◌, ◌≤◌, Bool, false, cond, All, List, [], ◌∷◌, length, map, get_or, set, filter, refl, sym, ap, subst, ◌∙◌, arith}
+use Rattle.std.proofs.Common.{◌≡◌, ◌≢◌, inl, inr, ℕ, ◌+◌, ◌^◌, ◌<◌, ◌≤◌, All, List, length, map, get_or, set, sym, ap, subst, ◌∙◌, arith}
 use Rattle.std.specs.List.{range_with_len}
 use Rattle.std.proofs.lemmas.Bool.{cases_lt}
 use Rattle.std.proofs.lemmas.List.{length-map, get_or-set_same, get_or-set_other}
-use Rattle.std.proofs.lemmas.List.Elements.{All-head, All-tail, All-filter}
-use Rattle.std.proofs.lemmas.List.FromFn.{length-range_with_len, get_or-range_with_len, length-map-range_with_len, get_or-map-range_with_len}
+use Rattle.std.proofs.lemmas.List.Elements.{All-filter}
+use Rattle.std.proofs.lemmas.List.FromFn.{length-range_with_len, get_or-range_with_len}
 use Rattle.scatter_rows.specs.Scattered.{AreDistinct}
 use Rattle.source_meaning.specs.declared.kinds.Kind.{Kind}
 use Rattle.source_meaning.specs.Rows.{Row}
@@ -56,25 +56,13 @@ module _ (parents rows cells : List ℕ) where
     | inr more ↦ (let same : k ≡ i = omega arith in subst (λ (j : ℕ). get_or (next k) (get_or os j 0) 0 ≡ get_or ms j 0) same (put_here k there inside))
   ]
 
--- ---- the rows that marks tell
+-- ---- the rows of names left of assignments
 
-filter_on : {T : Type 0} (P : T → Type 0) (f g : T → Bool) (xs : List T) → ((x : T) → P x → f x ≡ g x) → All P xs → filter f xs ≡ filter g xs
-filter_on P f g [] same all = refl
-filter_on P f g (x ∷ xs) same all = λ i. cond (same x (All-head P x xs all) i) (x ∷ filter_on P f g xs same (All-tail P x xs all) i) (filter_on P f g xs same (All-tail P x xs all) i)
-
-pub range_within : (n : ℕ) → All (λ k. k < n) (range_with_len 0 n)
+range_within : (n : ℕ) → All (λ k. k < n) (range_with_len 0 n)
 range_within n k d l =
     let many = length-range_with_len 0 n in
     let e = get_or-range_with_len 0 n k d (omega (arith, many)) in
     omega (arith, many)
-
-pub marks_tell : (f : ℕ → Bool) (n : ℕ) (marks : List Bool) → marks ≡ map f (range_with_len 0 n) → filter (λ k. get_or marks k false) (range_with_len 0 (length marks)) ≡ filter f (range_with_len 0 n)
-marks_tell f n marks is =
-    let many : length marks ≡ n = ap length is ∙ length-map-range_with_len f 0 n in
-    ap (λ (m : ℕ). filter (λ k. get_or marks k false) (range_with_len 0 m)) many
-    ∙ filter_on (λ (k : ℕ). k < n) (λ k. get_or marks k false) f (range_with_len 0 n)
-    (λ k l. ap (λ (ms : List Bool). get_or ms k false) is ∙ get_or-map-range_with_len f 0 n k k false l (omega arith))
-    (range_within n)
 
 pub targets_within : (kinds : List Kind) (parents places targets : List ℕ) → targets ≡ targets_in kinds parents places → length kinds ≤ 2 ^ 25 → All (λ j. j < 2 ^ 25) targets
 targets_within kinds parents places targets is few = subst (λ (l : List ℕ). All (λ j. j < 2 ^ 25) l) (sym is) within_all

@@ -14,6 +14,7 @@ use crate::row_type::row_type;
 use par_passes::{Lift, Passes};
 use source_meaning::{Kind, ValueType};
 use std::alloc::AllocError;
+use std::marker::Brand;
 use word_monoid::Count;
 
 /// The type of each row, from the kinds of rows, the rows that they mean, and one more than the row of the name left of each
@@ -63,22 +64,13 @@ pub(crate) fn functions_before(crew: &impl Passes, kinds: &[Kind]) -> Result<Vec
     crew.scan_lifted(&Count, kinds, &Marked)
 }
 
-// The least key of what each row shows.
-fn keys(crew: &impl Passes, columns: &Columns<'_>) -> Result<Vec<u64>, AllocError>
-    requires nodes { length columns.now.kinds.now ≤ 2 ^ 25 }
-    ensures { IfOk result (λ v. v.items ≡ map (key_of columns.now) (range_with_len 0 (length columns.now.kinds.now))) }
-{
-    let at = |k: u32| -> u64
-        ensures { result ≡ key_of columns.entry.now k }
-    { key(*columns, k) };
-    crew.tabulate(columns.kinds.len() as u32, &at)
-}
-
 /// The least key of what all rows show.
 pub(crate) fn least_key(crew: &impl Passes, columns: &Columns<'_>) -> Result<u64, AllocError>
     requires nodes { length columns.now.kinds.now ≤ 2 ^ 25 }
     ensures { IfOk result (λ m. m ≡ fold min no_key (map (key_of columns.now) (range_with_len 0 (length columns.now.kinds.now)))) }
 {
-    let keys = keys(crew, columns)?;
-    crew.least(&keys)
+    let at = |k: u32| -> u64
+        ensures { result ≡ key_of columns.entry.now k }
+    { key(*columns, k) };
+    crew.least_of::<_, Brand>(columns.kinds.len() as u32, &at)
 }

@@ -1,6 +1,5 @@
 //! The names left of assignments, each put at its assignment.
-ghost use Rattle.std.specs.Prelude.{◌≡◌, ℕ, ◌<◌, ◌≤◌, ◌^◌, All, length, map, slice_index, slice_set, IfOk};
-ghost use Rattle.std.specs.List.{range_with_len};
+ghost use Rattle.std.specs.Prelude.{◌≡◌, ℕ, ◌<◌, ◌≤◌, ◌^◌, All, length, slice_index, slice_set, IfOk};
 ghost use Rattle.scatter_rows.specs.Scattered.{AreDistinct};
 ghost use Rattle.typing_rules.specs.Targets.{is_target as is_target_in, targets_in, owners, marks};
 ghost use Rattle.type_pass.specs.Placed.{owners_by, IsPut};
@@ -12,22 +11,6 @@ use par_passes::Passes;
 use source_meaning::Kind;
 use std::alloc::AllocError;
 
-// Which rows are names left of assignments.
-fn target_marks(
-    crew: &impl Passes,
-    kinds: &[Kind],
-    parents: &[u32],
-    places: &[u32],
-) -> Result<Vec<bool>, AllocError>
-    requires nodes { length kinds.now ≤ 2 ^ 25 }
-    ensures { IfOk result (λ v. v.items ≡ map (is_target_in kinds.now parents.now places.now) (range_with_len 0 (length kinds.now))) }
-{
-    let at = |k: u32| -> bool
-        ensures { result ≡ is_target_in kinds.entry.now parents.entry.now places.entry.now k }
-    { is_target(kinds, parents, places, k) };
-    crew.tabulate(kinds.len() as u32, &at)
-}
-
 // The rows of names left of assignments, in order.
 fn target_rows(
     crew: &impl Passes,
@@ -38,8 +21,10 @@ fn target_rows(
     requires nodes { length kinds.now ≤ 2 ^ 25 }
     ensures { IfOk result (λ v. v.items ≡ targets_in kinds.now parents.now places.now) }
 {
-    let marks = target_marks(crew, kinds, parents, places)?;
-    crew.positions(&marks, &|mark: bool| mark)
+    let at = |k: u32| -> bool
+        ensures { result ≡ is_target_in kinds.entry.now parents.entry.now places.entry.now k }
+    { is_target(kinds, parents, places, k) };
+    crew.numbers_where(kinds.len() as u32, &at)
 }
 
 // Puts a number at a place, if there is one.
