@@ -1,7 +1,7 @@
 -- Each text has exactly one answer.
-use Rattle.std.proofs.Common.{◌≡◌, ℕ, zero, suc, ◌+◌, ◌-◌, ◌<◌, ◌≤◌, List, [], ◌∷◌, length, map, Bool, true, false, cond, Some, Result, Ok, Err, refl, sym, ap, ◌∙◌, subst, arith}
+use Rattle.std.proofs.Common.{◌≡◌, ℕ, zero, suc, ◌+◌, ◌-◌, ◌<◌, ◌≤◌, List, [], ◌∷◌, length, map, Bool, true, false, cond, Some, Result, Ok, Err, refl, sym, ap, ◌∙◌, subst, arith, ◌⊎◌, inl, inr}
 use Rattle.std.proofs.lemmas.Bool.Decides.{nat_tests}
-use Rattle.std.specs.Prelude.{slice_get, nat_lt, ◌==◌}
+use Rattle.std.specs.Prelude.{slice_get, nat_lt, IfOk, IfErr, MatchResult, ◌==◌}
 use Rattle.std.specs.Str.Lines.{lines}
 use Rattle.rv_text.specs.declared.fault.AsmFault.{AsmFault}
 use Rattle.rv_text.specs.declared.fault.AsmFault.TheVariants.{TooLarge, Line as LineOf, Empty, TooMany, NoMemory}
@@ -102,3 +102,11 @@ one_answer text (Ok words) (Err TooMany) h k = let e : length words ≡ length (
 one_answer text (Ok words) (Ok others) h k = ap Ok (h.2 ∙ sym k.2)
 one_answer text (Err NoMemory) b h k = absurd h
 one_answer text a (Err NoMemory) h k = absurd k
+
+-- what says what is assembled says which answer is the text's
+pub exact : {V : Type 0} (text : List ℕ) (r : Result V AsmFault) (items : V → List ℕ) → IfOk r (λ v. assembled text ≡ Ok (items v))
+    → IfErr r (λ fault. (fault ≡ NoMemory) ⊎ (assembled text ≡ Err fault)) → (told : Result (List ℕ) AsmFault) → IsAnswer text told
+    → MatchResult r (λ v. told ≡ Ok (items v)) (λ fault. (fault ≡ NoMemory) ⊎ (told ≡ Err fault))
+exact text (Ok v) items h k told is = one_answer text told (assembled text) is (answered text) ∙ h
+exact text (Err fault) items h (inl e) told is = inl e
+exact text (Err fault) items h (inr e) told is = inr (one_answer text told (assembled text) is (answered text) ∙ e)

@@ -1,9 +1,10 @@
 // The words of a text.
 
-ghost use Rattle.std.specs.Prelude.{◌≡◌, ◌⊎◌, ◌<◌, ◌≤◌, length, Ok, Err, IfOk, IfErr};
+ghost use Rattle.std.specs.Prelude.{◌≡◌, ◌⊎◌, ℕ, List, ◌≤◌, length, Result, Ok, Err, IfOk, IfErr, MatchResult};
 ghost use Rattle.std.specs.Str.Lines.{lines};
-ghost use Rattle.rv_text.specs.declared.fault.AsmFault.TheVariants.{NoMemory, TooLarge};
-ghost use Rattle.rv_text.specs.Assembled.{words_from, assembled};
+ghost use Rattle.rv_text.specs.declared.fault.AsmFault.{AsmFault as AnyFault};
+ghost use Rattle.rv_text.specs.declared.fault.AsmFault.TheVariants.{NoMemory};
+ghost use Rattle.rv_text.specs.Assembled.{words_from, assembled, IsAnswer};
 
 use crate::fault::AsmFault;
 use crate::lines::{Line, read_line, split_line};
@@ -40,7 +41,7 @@ fn words(alloc: Global, text: &[u8]) -> Result<Vec<u32>, AsmFault>
 }
 
 /// The words that the lines of a text spell, or its first fault.
-pub fn assemble(alloc: Global, text: &[u8]) -> Result<Vec<u32>, AsmFault>
+fn words_or_fault(alloc: Global, text: &[u8]) -> Result<Vec<u32>, AsmFault>
     ensures ok { IfOk result (λ words. assembled text.now ≡ Ok words.items) }
     ensures fault { IfErr result (λ fault. (fault ≡ NoMemory) ⊎ (assembled text.now ≡ Err fault)) }
 {
@@ -55,4 +56,14 @@ pub fn assemble(alloc: Global, text: &[u8]) -> Result<Vec<u32>, AsmFault>
         return Err(AsmFault::TooMany);
     }
     Ok(words)
+}
+
+/// The words that the lines of a text spell, or its first fault.
+pub fn assemble(alloc: Global, text: &[u8]) -> Result<Vec<u32>, AsmFault>
+    ensures ok { IfOk result (λ words. assembled text.now ≡ Ok words.items) }
+    ensures fault { IfErr result (λ fault. (fault ≡ NoMemory) ⊎ (assembled text.now ≡ Err fault)) }
+    ensures exactly { (told : Result (List ℕ) AnyFault) → IsAnswer text.now told
+        → MatchResult result (λ words. told ≡ Ok words.items) (λ fault. (fault ≡ NoMemory) ⊎ (told ≡ Err fault)) }
+{
+    words_or_fault(alloc, text)
 }

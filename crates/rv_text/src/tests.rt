@@ -45,7 +45,7 @@ fence x0, x0, 255
 ";
     let listed = listing(rt.alloc(), &words)?;
     assert_eq!(rt; listed.as_slice(), lines.as_slice());
-    let again = assemble(rt.alloc(), listed.as_slice()).unwrap();
+    let again = assemble(rt.alloc(), listed.as_slice()).expect(&rt, "the lines are read");
     assert_eq!(rt; again.as_slice(), words.as_slice());
     Ok(())
 }
@@ -171,7 +171,7 @@ fn lists_each_instruction(rt: HostRuntime) -> Result<(), Fail> {
     ];
     let listed = listing(rt.alloc(), &words)?;
     assert_eq!(rt; listed.as_slice(), LINES);
-    let again = assemble(rt.alloc(), LINES).unwrap();
+    let again = assemble(rt.alloc(), LINES).expect(&rt, "the lines are read");
     assert_eq!(rt; again.as_slice(), words.as_slice());
     Ok(())
 }
@@ -201,7 +201,7 @@ ebreak";
         0x73,
         0x0010_0073,
     ];
-    let assembled = assemble(rt.alloc(), text).unwrap();
+    let assembled = assemble(rt.alloc(), text).expect(&rt, "the lines are read");
     assert_eq!(rt; assembled.as_slice(), words.as_slice());
     Ok(())
 }
@@ -238,29 +238,29 @@ fn refuses_what_is_no_line(rt: HostRuntime) -> Result<(), Fail> {
         b".word 0X1",
     ];
     for line in lines {
-        assert_eq!(rt; assemble(rt.alloc(), line).unwrap_err(), AsmFault::Line(1));
+        assert_eq!(rt; assemble(rt.alloc(), line).err(), Some(AsmFault::Line(1)));
     }
     Ok(())
 }
 
 #[test]
 fn tells_the_first_fault(rt: HostRuntime) -> Result<(), Fail> {
-    assert_eq!(rt; assemble(rt.alloc(), b"").unwrap_err(), AsmFault::Empty);
+    assert_eq!(rt; assemble(rt.alloc(), b"").err(), Some(AsmFault::Empty));
     assert_eq!(rt;
-        assemble(rt.alloc(), b"\n# nothing\r\n \t").unwrap_err(),
-        AsmFault::Empty
+        assemble(rt.alloc(), b"\n# nothing\r\n \t").err(),
+        Some(AsmFault::Empty)
     );
     assert_eq!(rt;
-        assemble(rt.alloc(), b"\necall\n\nadd\nsub").unwrap_err(),
-        AsmFault::Line(4)
+        assemble(rt.alloc(), b"\necall\n\nadd\nsub").err(),
+        Some(AsmFault::Line(4))
     );
     assert_eq!(rt;
-        assemble(rt.alloc(), b"ecall\r\r\n").unwrap_err(),
-        AsmFault::Line(1)
+        assemble(rt.alloc(), b"ecall\r\r\n").err(),
+        Some(AsmFault::Line(1))
     );
     assert_eq!(rt;
-        assemble(rt.alloc(), b"ecall\necall\r").unwrap_err(),
-        AsmFault::Line(2)
+        assemble(rt.alloc(), b"ecall\necall\r").err(),
+        Some(AsmFault::Line(2))
     );
     Ok(())
 }
