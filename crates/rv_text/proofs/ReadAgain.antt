@@ -214,9 +214,6 @@ operand_some o h = some_length (operand_text o) o (operand_again o h)
 
 -- commas
 
-not_comma : (b : ℕ) → is_plain b ≡ true → (b == 0x2C) ≡ false
-not_comma b h = grind (arith, nat_tests)
-
 comma_free : (s : List ℕ) → list_all (λ b. not (b == 0x2C)) s ≡ true → All (λ b. (b == 0x2C) ≡ false) s
 comma_free s h k d inside = turned (get_or s k d == 0x2C) (AllPass-from_list_all (λ b. not (b == 0x2C)) s h k d inside)
   where
