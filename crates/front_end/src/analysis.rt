@@ -55,10 +55,7 @@ fn meant(
 }
 
 // The parse tables of the language, made in one thread, and the tokens of the source, in another one.
-fn tables_beside_tokens<C: Passes>(
-    crew: &C,
-    source: &[u8],
-) -> Result<(Tables, Tokens), Refusal>
+fn tables_beside_tokens<C: Passes>(crew: &C, source: &[u8]) -> Result<(Tables, Tokens), Refusal>
     requires fits { length source.now ≤ 1048576 }
     ensures ok { IfOk result (λ b. AreTablesOf grammar b.0 × IsReduced grammar × AreTokens source.now b.1) }
     ensures refused { IfErr result (IsRefusedBy source.now) }

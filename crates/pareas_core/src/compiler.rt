@@ -20,10 +20,7 @@ pub(crate) struct Compiled {
 }
 
 /// The executable file of a source and the number of its tokens, or why it has no file.
-pub(crate) fn compile_counting(
-    crew: &impl Passes,
-    source: &[u8],
-) -> Result<Compiled, Refusal>
+pub(crate) fn compile_counting(crew: &impl Passes, source: &[u8]) -> Result<Compiled, Refusal>
     ensures image { IfOk result (λ made. CompilesTo source.now made.file.items) }
     ensures tokens { IfOk result (λ made. made.tokens ≡ length (tokens source.now)) }
     ensures refused { IfErr result (IsRefusedBy source.now) }

@@ -35,11 +35,7 @@ fn lines(alloc: Global, text: &[u8], made: &Compiled) -> Result<Vec<u8>, AllocEr
 }
 
 /// Makes the text of the seed, compiles it, and runs its image: the sizes, and how the run ends.
-pub(crate) fn drill(
-    crew: &impl Passes,
-    seed: u32,
-    functions: u32,
-) -> Result<Response, AllocError>
+pub(crate) fn drill(crew: &impl Passes, seed: u32, functions: u32) -> Result<Response, AllocError>
     ensures { (bytes : List ℕ) → IfOk result (λ response. IsResponse (Drill seed functions) bytes response) }
 {
     one_verdict();
