@@ -14,7 +14,7 @@ use Rattle.clap.specs.Walk.{Text, Rule, Row, Held, Names, Outcome, done, waits, 
 use Rattle.clap.specs.Faults.{walk_fault, turn_fault, word_fault, other_fault, step_fault, settle_fault, defaults_fault, check_fault, level_fault, entered_fault, built_fault, fault_of}
 use Rattle.clap.proofs.ValueTestLemmas.{accepts-Accepts}
 use Rattle.command_line.specs.Words.{app, number_option, with_default, required, workers_option, chunk_option, steps_option, seed_option, functions_option}
-use Rattle.command_line.specs.Ranges.{HasNumber, HasPlan, HasSteps, HasText, HasNumbers, of_build, of_run, of_emu, of_table, of_drill}
+use Rattle.command_line.specs.Ranges.{HasNumber, HasPlan, HasSteps, HasText, HasNumbers, of_build, of_run, of_emu, of_dump, of_asm, of_table, of_drill}
 use Rattle.command_line.proofs.Rows.{both_none, AreOptions, IsOption}
 use Rattle.command_line.proofs.Levels.{IsThere, here, wanted, later, level_value}
 
@@ -201,7 +201,7 @@ run_options = (workers_is, (chunk_is, (steps_is, (inr refl, tt))))
 emu_options : AreOptions tested (built_sub 2).rules
 emu_options = (steps_is, (inr refl, tt))
 
-drill_options : AreOptions tested (built_sub 4).rules
+drill_options : AreOptions tested (built_sub 6).rules
 drill_options = (seed_is, (functions_is, (workers_is, (chunk_is, (inr refl, tt)))))
 
 build_takes : (word : Text) → Takes word (built_sub 0)
@@ -215,16 +215,23 @@ run_takes word words e f =
 emu_takes : (word : Text) → Takes word (built_sub 2)
 emu_takes word words e f = of_emu (steps_of_words (built_sub 2) words emu_options (here _ refl refl) f)
 
-table_takes : (word : Text) → Takes word (built_sub 3)
+dump_takes : (word : Text) → Takes word (built_sub 3)
+dump_takes word words e f = of_dump
+
+asm_takes : (word : Text) → Takes word (built_sub 4)
+asm_takes word words e f = of_asm
+
+table_takes : (word : Text) → Takes word (built_sub 5)
 table_takes word words e f = of_table
 
-drill_takes : (word : Text) → Takes word (built_sub 4)
+drill_takes : (word : Text) → Takes word (built_sub 6)
 drill_takes word words e f =
-    of_drill (text_of_words (built_sub 4) words drill_options (wanted refl refl) (later (wanted refl refl)) f)
-    (plan_of_words (built_sub 4) words drill_options (later (later (here _ refl refl))) (later (later (later (here _ refl refl)))) f)
+    of_drill (text_of_words (built_sub 6) words drill_options (wanted refl refl) (later (wanted refl refl)) f)
+    (plan_of_words (built_sub 6) words drill_options (later (later (here _ refl refl))) (later (later (later (here _ refl refl)))) f)
 
 all_take : (word : Text) → bytes_eq word (codes "help") ≡ false → AllShapes (Takes word) (built app).subs
-all_take word other = (build_takes word, (run_takes word, (emu_takes word, (table_takes word, (drill_takes word, ((λ words e f. absurd (help_asked word other e)), tt))))))
+all_take word other =
+    (build_takes word, (run_takes word, (emu_takes word, (dump_takes word, (asm_takes word, (table_takes word, (drill_takes word, ((λ words e f. absurd (help_asked word other e)), tt))))))))
 
 -- a subcommand is required
 entered_one : (rows : List Row) (has : Bool) → check_fault (built app).top rows has ≡ [] → has ≡ true

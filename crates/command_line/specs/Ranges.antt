@@ -23,5 +23,7 @@ pub data HasNumbers (rows : List Row) : Text → Type 0 where
   of_build : HasPlan rows → HasNumbers rows (codes "build")
   of_run : HasPlan rows → HasSteps rows → HasNumbers rows (codes "run")
   of_emu : HasSteps rows → HasNumbers rows (codes "emu")
+  of_dump : HasNumbers rows (codes "dump")
+  of_asm : HasNumbers rows (codes "asm")
   of_table : HasNumbers rows (codes "table")
   of_drill : HasText rows → HasPlan rows → HasNumbers rows (codes "drill")

@@ -8,7 +8,7 @@ use Rattle.clap.specs.declared.builder.action.ArgAction.TheVariants.{Set}
 use Rattle.clap.specs.declared.builder.value_parser.ValueParser.{ValueParser}
 use Rattle.clap.specs.declared.builder.value_parser.ValueParser.TheVariants as parsers
 use Rattle.command_line.specs.declared.command.Command.{Command}
-use Rattle.command_line.specs.declared.command.Command.TheVariants.{Build, Run, Emu, Table, Drill}
+use Rattle.command_line.specs.declared.command.Command.TheVariants.{Build, Run, Emu, Dump, Asm, Table, Drill}
 
 -- ---- the command
 
@@ -54,17 +54,30 @@ run_shape = subcommand (codes "run") (workers_option ∷ chunk_option ∷ steps_
 abbrev pub emu_shape : Shape
 emu_shape = subcommand (codes "emu") (steps_option ∷ [])
 
+abbrev pub dump_shape : Shape
+dump_shape = subcommand (codes "dump") []
+
+abbrev pub asm_shape : Shape
+asm_shape = subcommand (codes "asm") []
+
 abbrev pub table_shape : Shape
 table_shape = subcommand (codes "table") []
 
 abbrev pub drill_shape : Shape
 drill_shape = subcommand (codes "drill") (seed_option ∷ functions_option ∷ workers_option ∷ chunk_option ∷ [])
 
--- `pareas`: one of its subcommands is required
+-- `pareas` before it has subcommands, of which one is required
+abbrev pub bare_app : App
+bare_app = record {
+  top = record (new_shape (codes "pareas")) { subcommand_required = true; has_version = true };
+  subs = [];
+}
+
+-- `pareas`
 abbrev pub app : App
 app = record {
-  top = record (new_shape (codes "pareas")) { subcommand_required = true; has_version = true; is_leaf = false };
-  subs = build_shape ∷ run_shape ∷ emu_shape ∷ table_shape ∷ drill_shape ∷ [];
+  top = record bare_app.top { is_leaf = false };
+  subs = build_shape ∷ run_shape ∷ emu_shape ∷ dump_shape ∷ asm_shape ∷ table_shape ∷ drill_shape ∷ [];
 }
 
 -- ---- what words ask for
@@ -83,12 +96,14 @@ abbrev pub shared_out : Command → List Row → Asked
 shared_out command rows =
     record { command = command; workers = number_at (codes "workers") rows; chunk = number_at (codes "chunk") rows }
 
--- what a subcommand asks for with its options; `emu` and `table` have no options for sharing
+-- what a subcommand asks for with its options; `emu`, `dump`, `asm` and `table` have no options for sharing
 abbrev pub asked_by : Text → List Row → Asked
 asked_by name rows =
     if bytes_eq name (codes "build") then shared_out Build rows
     else if bytes_eq name (codes "run") then shared_out (Run (number_at (codes "steps") rows)) rows
     else if bytes_eq name (codes "emu") then record { command = Emu (number_at (codes "steps") rows); workers = 1; chunk = 1 }
+    else if bytes_eq name (codes "dump") then record { command = Dump; workers = 1; chunk = 1 }
+    else if bytes_eq name (codes "asm") then record { command = Asm; workers = 1; chunk = 1 }
     else if bytes_eq name (codes "drill") then shared_out (Drill (number_at (codes "seed") rows) (number_at (codes "functions") rows)) rows
     else record { command = Table; workers = 1; chunk = 1 }
 

@@ -15,6 +15,10 @@ pub enum Command {
         /// The most steps.
         steps: u32,
     },
+    /// Writes the listing of the code of the executable file on the input.
+    Dump,
+    /// Assembles the listing on the input to an executable file on the output.
+    Asm,
     /// Reads the grammar file on the input, and tells how large its parse tables are.
     Table,
     /// Makes a source text from a seed, compiles it, runs its file on the machine for a million steps, and tells how large all

@@ -1,7 +1,7 @@
 //! What the definitions say of words.
 ghost use Rattle.std.specs.Prelude.{◌≡◌, ℕ, List, [], ◌∷◌, Some, None, codes};
 ghost use Rattle.clap.specs.Words.{fault_of};
-ghost use Rattle.command_line.specs.declared.command.Command.TheVariants.{Build, Run, Emu, Table, Drill};
+ghost use Rattle.command_line.specs.declared.command.Command.TheVariants.{Build, Run, Emu, Dump, Asm, Table, Drill};
 ghost use Rattle.command_line.specs.Words.{Asked, app, asked};
 
 /// Words in which `clap` finds no fault ask for something.
@@ -14,6 +14,8 @@ pub fn worked_words()
     ensures build { asked (codes "pareas" ∷ codes "build" ∷ []) ≡ Some (record { command = Build; workers = 4; chunk = 1024 }) }
     ensures options { asked (codes "pareas" ∷ codes "run" ∷ codes "--steps=14" ∷ codes "--workers" ∷ codes "64" ∷ []) ≡ Some (record { command = Run 14; workers = 64; chunk = 1024 }) }
     ensures emu { asked (codes "pareas" ∷ codes "emu" ∷ []) ≡ Some (record { command = Emu 1000000; workers = 1; chunk = 1 }) }
+    ensures dump { asked (codes "pareas" ∷ codes "dump" ∷ []) ≡ Some (record { command = Dump; workers = 1; chunk = 1 }) }
+    ensures asm { asked (codes "pareas" ∷ codes "asm" ∷ []) ≡ Some (record { command = Asm; workers = 1; chunk = 1 }) }
     ensures table { asked (codes "pareas" ∷ codes "table" ∷ []) ≡ Some (record { command = Table; workers = 1; chunk = 1 }) }
     ensures drill { asked (codes "pareas" ∷ codes "drill" ∷ codes "--seed" ∷ codes "1" ∷ codes "--functions" ∷ codes "2" ∷ []) ≡ Some (record { command = Drill 1 2; workers = 4; chunk = 1024 }) }
     ensures seedless { asked (codes "pareas" ∷ codes "drill" ∷ codes "--functions" ∷ codes "2" ∷ []) ≡ None }

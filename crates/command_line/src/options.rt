@@ -2,7 +2,7 @@
 
 ghost use Rattle.std.specs.Prelude.{◌≡◌, IfOk, false};
 ghost use Rattle.clap.specs.Words.{app_of, rule_of, shape_of};
-ghost use Rattle.command_line.specs.Words.{app, build_shape, run_shape, emu_shape, table_shape, drill_shape, workers_option, chunk_option, steps_option, seed_option, functions_option, number_option, with_default, required};
+ghost use Rattle.command_line.specs.Words.{app, bare_app, build_shape, run_shape, emu_shape, dump_shape, asm_shape, table_shape, drill_shape, workers_option, chunk_option, steps_option, seed_option, functions_option, number_option, with_default, required};
 
 use clap::builder::ValueParser;
 use clap::{Arg, ArgAction, Command, value_parser};
@@ -134,6 +134,22 @@ fn emu<'a>(alloc: Global) -> Result<Command<'a>, AllocError>
         .arg(steps(alloc))
 }
 
+fn dump<'a>(alloc: Global) -> Command<'a>
+    ensures { shape_of result ≡ dump_shape }
+{
+    Command::new(alloc, "dump").about(
+        "Lists the code of an ELF file for RV32IM from standard input: prints a line for each word",
+    )
+}
+
+fn asm<'a>(alloc: Global) -> Command<'a>
+    ensures { shape_of result ≡ asm_shape }
+{
+    Command::new(alloc, "asm").about(
+        "Assembles a listing as `dump` prints it: lines on standard input, ELF file for RV32IM on standard output",
+    )
+}
+
 fn table<'a>(alloc: Global) -> Command<'a>
     ensures { shape_of result ≡ table_shape }
 {
@@ -155,9 +171,9 @@ fn drill<'a>(alloc: Global) -> Result<Command<'a>, AllocError>
         .arg(chunk(alloc))
 }
 
-/// The command line as `clap` reads it.
-pub(crate) fn command<'a>(alloc: Global) -> Result<Command<'a>, AllocError>
-    ensures { IfOk result (λ c. app_of c ≡ app) }
+// The command before it has subcommands.
+fn bare<'a>(alloc: Global) -> Command<'a>
+    ensures { app_of result ≡ bare_app }
 {
     Command::new(alloc, "pareas")
         .version("0.1.0")
@@ -165,9 +181,18 @@ pub(crate) fn command<'a>(alloc: Global) -> Result<Command<'a>, AllocError>
             "A parallel compiler of a small C-like language to RV32IM, proved correct, and an emulator",
         )
         .subcommand_required(true)
+}
+
+/// The command line as `clap` reads it.
+pub(crate) fn command<'a>(alloc: Global) -> Result<Command<'a>, AllocError>
+    ensures { IfOk result (λ c. app_of c ≡ app) }
+{
+    bare(alloc)
         .subcommand(build(alloc)?)?
         .subcommand(run(alloc)?)?
         .subcommand(emu(alloc)?)?
+        .subcommand(dump(alloc))?
+        .subcommand(asm(alloc))?
         .subcommand(table(alloc))?
         .subcommand(drill(alloc)?)
 }

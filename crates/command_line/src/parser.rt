@@ -84,6 +84,14 @@ fn request(name: &str, options: &ArgMatches<'_>) -> Request
             },
             plan: alone(),
         },
+        "dump" => Request {
+            command: Command::Dump,
+            plan: alone(),
+        },
+        "asm" => Request {
+            command: Command::Asm,
+            plan: alone(),
+        },
         "drill" => Request {
             command: Command::Drill {
                 seed: number(options, "seed"),
