@@ -7,7 +7,7 @@ use Rattle.elf_file.specs.Image.{elf, word}
 use Rattle.elf_file.specs.Load.{load, half_at, word_at, most, code_alone}
 
 -- one segment, by what the file's fields are
-fields_load : (file code : List ℕ) (n : ℕ) → 0 < n → n ≤ 1048576 → length file ≡ 84 + n → length code ≡ n → take n (drop 84 file) ≡ code
+fields_load : (file code : List ℕ) (n : ℕ) → 0 < n → n ≤ 16777216 → length file ≡ 84 + n → length code ≡ n → take n (drop 84 file) ≡ code
     → word_at file 0 ≡ 0x464C457F → slice_index file 4 ≡ 1 → slice_index file 5 ≡ 1 → slice_index file 6 ≡ 1 → half_at file 16 ≡ 2 → half_at file 42 ≡ 32 → half_at file 18 ≡ 243
     → word_at file 24 ≡ 0x10054 → half_at file 44 ≡ 1 → word_at file 28 ≡ 52 → word_at file 52 ≡ 1 → word_at file 56 ≡ 84 → word_at file 60 ≡ 0x10054 → word_at file 68 ≡ n → word_at file 72 ≡ n → word_at file 76 ≡ 5
     → load file ≡ Ok (record { entry = 0x10054; segments = record { start = 0x10054; bytes = code ++ replicate (n - n) 0; flags = 5 } ∷ [] })
@@ -35,7 +35,7 @@ words_long : (words : List ℕ) → length (flat_map word words) ≡ 4 * length 
 words_long [] = refl
 words_long (w ∷ ws) = omega (arith, length-append (word w) (flat_map word ws), words_long ws)
 
-pub written-loads : (words : List ℕ) → 0 < length words → length words ≤ 262144 → load (elf words) ≡ Ok (code_alone words)
+pub written-loads : (words : List ℕ) → 0 < length words → length words ≤ 4194304 → load (elf words) ≡ Ok (code_alone words)
 written-loads words pos short =
     let file = elf words in
     let n = 4 * length words in

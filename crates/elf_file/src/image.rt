@@ -34,10 +34,10 @@ fn append_words(file: &mut Vec<u8>, numbers: &[u32]) -> Result<(), AllocError>
     Ok(())
 }
 
-/// The file of a program of at most 1 MiB: one segment with these words, readable and executable, at
+/// The file of at most 4,194,304 words: one segment with these words, readable and executable, at
 /// 0x10054, where the run begins.
 pub fn write(alloc: Global, words: &[u32]) -> Result<Vec<u8>, AllocError>
-    requires { length words.now ≤ 262144 }
+    requires { length words.now ≤ 4194304 }
     ensures { IfOk result (λ file. file.items ≡ elf words.now) }
 {
     let size = 4 * words.len() as u32;

@@ -1,5 +1,5 @@
 -- From what was read, answered and delivered to what the program's contract says.
-use Rattle.std.proofs.Common.{◌≡◌, ℕ, zero, suc, ◌+◌, ◌⊎◌, true, false, inl, inr, arith, List, [], ◌∷◌, ◌++◌, length, take, drop, Option, Some, None, Result, Ok, Err, refl, sym, ap, ◌∙◌, subst}
+use Rattle.std.proofs.Common.{◌≡◌, ℕ, zero, suc, ◌+◌, ◌<◌, ◌≤◌, ◌⊎◌, true, false, inl, inr, arith, List, [], ◌∷◌, ◌++◌, length, take, drop, Option, Some, None, Result, Ok, Err, refl, sym, ap, ◌∙◌, subst}
 use Rattle.std.proofs.lemmas.List.{append-nil}
 use Rattle.std.specs.Io.KnownBytes.{Appends}
 use Rattle.drill_source.specs.Drill.{drill_text}
@@ -11,8 +11,13 @@ use Rattle.verdict.specs.Verdict.{Verdict, Diagnosed, Limited, Accepted, IsVerdi
 use Rattle.pareas_core.specs.declared.status.Status.{Status}
 use Rattle.pareas_core.specs.declared.status.Status.TheVariants as statuses
 use Rattle.command_line.specs.declared.command.Command.{Command}
-use Rattle.command_line.specs.declared.command.Command.TheVariants.{Build, Run, Emu, Table, Drill}
+use Rattle.command_line.specs.declared.command.Command.TheVariants.{Build, Run, Emu, Dump, Asm, Table, Drill}
+use Rattle.elf_file.specs.Image.{elf}
 use Rattle.elf_file.specs.declared.fault.ElfFault.{ElfFault}
+use Rattle.elf_text.specs.Listing.{dumped, file_of_text}
+use Rattle.rv_text.specs.FaultLines.{line_of_fault as line_of_asm_fault}
+use Rattle.rv_text.specs.declared.fault.AsmFault.{AsmFault}
+use Rattle.rv_code.specs.Code.{words}
 use Rattle.rv32_emul.specs.Machine.{Outcome, Exits, Faults, More, machine}
 use Rattle.simulation.specs.Behaves.{Behaves, IsFaulty, Overruns}
 use Rattle.grammar_file.specs.Grammar.{Grammar}
@@ -25,7 +30,7 @@ use Rattle.llp_tables.specs.Tables.{IsTableFault}
 use Rattle.llp_tables.specs.Pairs.{CountsPairs}
 use Rattle.llp_tables.specs.FaultLines.{line_of_fault}
 use Rattle.llp_tables.specs.declared.fault.TableFault.{TableFault}
-use Rattle.pareas_core.specs.Output.{Due, noted, done, due_of_verdict, due_of_machine, due_of_drill, drill_lines, drill_steps, IsDueOfGrammar, conflicting, sized, sizes, IsDue, built, ran, emulated, bad_grammar, tabled, drilled}
+use Rattle.pareas_core.specs.Output.{Due, noted, done, due_of_verdict, due_of_machine, due_of_dump, due_of_asm, due_of_drill, drill_lines, drill_steps, IsDueOfGrammar, conflicting, sized, sizes, IsDue, built, ran, emulated, listed, assembled, bad_grammar, tabled, drilled}
 use Rattle.pareas_core.specs.Reading.{ReadsUpTo, WritesPrefix}
 use Rattle.pareas_core.specs.Headline.{CompilesTo, RunsAs, Runs, what_was_read, what_was_made, HasRun, HasRead, IsToldOf, reads, most_bytes, read_by, End, HasFailed, HasWorked, GotPrefix, IsWritten, IsAnswer, MeetsWords, IsResponse, IsDelivered, whole, broken_off}
 
@@ -105,6 +110,12 @@ no_build_run bytes source steps r = elim r [ ]
 
 no_emu_run : (most : ℕ) (bytes source : List ℕ) (steps : ℕ) → Runs (Emu most) bytes source steps → ⊥
 no_emu_run most bytes source steps r = elim r [ ]
+
+no_dump_run : (bytes source : List ℕ) (steps : ℕ) → Runs Dump bytes source steps → ⊥
+no_dump_run bytes source steps r = elim r [ ]
+
+no_asm_run : (bytes source : List ℕ) (steps : ℕ) → Runs Asm bytes source steps → ⊥
+no_asm_run bytes source steps r = elim r [ ]
 
 no_table_run : (bytes source : List ℕ) (steps : ℕ) → Runs Table bytes source steps → ⊥
 no_table_run bytes source steps r = elim r [ ]
@@ -193,6 +204,41 @@ emulates steps bytes d is = record {
   ran = λ source n runs h. absurd (no_emu_run steps bytes source n runs);
 }
 
+-- ---- listings
+
+dump_due : (bytes : List ℕ) (e : Due) → IsDue Dump bytes e → e ≡ due_of_dump (dumped bytes)
+dump_due bytes _ listed = refl
+
+pub dumps : (bytes : List ℕ) (d : Due) → d ≡ due_of_dump (dumped bytes) → IsResponse Dump bytes d
+dumps bytes d is = record {
+  due = subst (IsDue Dump bytes) (sym is) listed;
+  only = λ e h. dump_due bytes e h ∙ sym is;
+  built = λ build is_done. let e : Dump ≡ Build = build in cc;
+  ran = λ source n runs h. absurd (no_dump_run bytes source n runs);
+}
+
+asm_due : (bytes : List ℕ) (e : Due) → IsDue Asm bytes e → e ≡ due_of_asm (file_of_text bytes)
+asm_due bytes _ assembled = refl
+
+pub assembles : (bytes : List ℕ) (d : Due) → d ≡ due_of_asm (file_of_text bytes) → IsResponse Asm bytes d
+assembles bytes d is = record {
+  due = subst (IsDue Asm bytes) (sym is) assembled;
+  only = λ e h. asm_due bytes e h ∙ sym is;
+  built = λ build is_done. let e : Asm ≡ Build = build in cc;
+  ran = λ source n runs h. absurd (no_asm_run bytes source n runs);
+}
+
+-- the listing of an image gives the image again, by the laws of listings and of accepted sources
+pub listed_and_assembled : ((ws : List ℕ) → 0 < length ws → length ws ≤ 4194304 → (text : List ℕ) × (dumped (elf ws) ≡ Ok text) × (file_of_text text ≡ Ok (elf ws)))
+    → ((text : List ℕ) (p : Program) → IsVerdict text (Accepted p) → (0 < length (words p)) × (length (words p) ≤ 262144))
+    → (source file : List ℕ) → CompilesTo source file → (text : List ℕ) × IsDue Dump file (done text) × IsDue Asm text (done file)
+listed_and_assembled again fits source file k =
+    let few = fits source k.program k.accepted in
+    let it = again (words k.program) few.0 (omega (arith, few.1)) in
+    let tells : dumped file ≡ Ok it.0 = ap dumped k.is_image ∙ it.1 in
+    let gives : file_of_text it.0 ≡ Ok file = it.2 ∙ ap Ok (sym k.is_image) in
+    (it.0, subst (IsDue Dump file) (ap due_of_dump tells) listed, subst (IsDue Asm it.0) (ap due_of_asm gives) assembled)
+
 -- ---- a grammar file
 
 abbrev OneSpelling : List ℕ → Type 0
@@ -274,6 +320,7 @@ IsOutcome statuses.Machine = Unit {0}
 IsOutcome statuses.BadImage = Unit {0}
 IsOutcome statuses.Conflict = Unit {0}
 IsOutcome statuses.BadGrammar = Unit {0}
+IsOutcome statuses.BadAsm = Unit {0}
 IsOutcome s = ⊥
 
 machine_outcome : (lines : List ℕ) (m : Result Outcome ElfFault) → IsOutcome (due_of_machine lines m).status
@@ -282,6 +329,16 @@ machine_outcome lines (Ok (Exits value)) = tt
 machine_outcome lines (Ok (Faults kind at address)) = tt
 machine_outcome lines (Ok More) = tt
 machine_outcome lines (Err fault) = tt
+
+dump_outcome : (m : Result (List ℕ) ElfFault) → IsOutcome (due_of_dump m).status
+unfolding IsOutcome
+dump_outcome (Ok text) = tt
+dump_outcome (Err fault) = tt
+
+asm_outcome : (m : Result (List ℕ) AsmFault) → IsOutcome (due_of_asm m).status
+unfolding IsOutcome
+asm_outcome (Ok file) = tt
+asm_outcome (Err fault) = tt
 
 running_outcome : (before : List ℕ → List ℕ) (steps : ℕ) (p : Program) → IsOutcome (running before steps p).status
 running_outcome before steps p = machine_outcome (before (image p)) (machine (image p) steps)
@@ -305,6 +362,8 @@ outcome _ bytes _ (drilled {seed = seed} {functions = functions} {v = v} is) =
     let text = drill_text seed functions in
     verdict_outcome (running (drill_lines text) drill_steps) text v (running_outcome (drill_lines text) drill_steps)
 outcome _ bytes _ (emulated {steps = steps}) = machine_outcome [] (machine bytes steps)
+outcome _ bytes _ listed = dump_outcome (dumped bytes)
+outcome _ bytes _ assembled = asm_outcome (file_of_text bytes)
 outcome _ bytes _ (bad_grammar f is) = tt
 outcome _ bytes d (tabled g is due) = grammar_outcome g d due
 

@@ -7,7 +7,7 @@ use Rattle.pareas_core.specs.declared.status.Status.{Status}
 use Rattle.pareas_core.specs.declared.status.Status.TheVariants as statuses
 use Rattle.pareas_core.specs.Causes.{Rose, Stayed}
 use Rattle.command_line.specs.declared.command.Command.{Command}
-use Rattle.command_line.specs.declared.command.Command.TheVariants.{Build, Run, Emu, Table, Drill}
+use Rattle.command_line.specs.declared.command.Command.TheVariants.{Build, Run, Emu, Dump, Asm, Table, Drill}
 use Rattle.elf_file.specs.Load.{most as most_image}
 use Rattle.drill_source.specs.Drill.{drill_text}
 use Rattle.pareas_core.specs.Output.{Due, IsDue, at_place, drill_steps, noted}
@@ -37,6 +37,10 @@ pub record RunsAs (source : List ℕ) (steps : ℕ) (status : Status) : Type 0 w
 abbrev pub most_grammar : ℕ
 most_grammar = 65536
 
+-- the most bytes of a listing
+abbrev pub most_listing : ℕ
+most_listing = 134217728
+
 -- the program that a command runs, by its source, and for how many steps: the source is what was read, or a drill's text
 pub data Runs : Command → List ℕ → List ℕ → ℕ → Type 0 where
   what_was_read : {steps : ℕ} {bytes : List ℕ} → Runs (Run steps) bytes bytes steps
@@ -52,6 +56,8 @@ abbrev pub most_bytes : Command → ℕ
 most_bytes Build = most_source
 most_bytes (Run steps) = most_source
 most_bytes (Emu steps) = most_image
+most_bytes Dump = most_image
+most_bytes Asm = most_listing
 most_bytes Table = most_grammar
 most_bytes (Drill seed functions) = 0
 

@@ -2,16 +2,19 @@
 use Rattle.std.specs.Prelude.{ℕ, ◌+◌, ◌-◌, false, List, [], ◌∷◌, ◌++◌, length, take, replicate, codes, decimal, fold, count_by, ◌==◌, if◌then◌else◌, Result, Ok, Err}
 use Rattle.std.specs.Fmt.{signed_decimal, digits}
 use Rattle.command_line.specs.declared.command.Command.{Command}
-use Rattle.command_line.specs.declared.command.Command.TheVariants.{Build, Run, Emu, Table, Drill}
+use Rattle.command_line.specs.declared.command.Command.TheVariants.{Build, Run, Emu, Dump, Asm, Table, Drill}
 use Rattle.drill_source.specs.Drill.{drill_text}
 use Rattle.rv_isa.specs.Word.{signed}
 use Rattle.rv_isa.specs.declared.hart.FaultKind.{FaultKind}
 use Rattle.rv_isa.specs.declared.hart.FaultKind.TheVariants.{Fetch, Load, Store, Misaligned, Unknown, Call}
 use Rattle.elf_file.specs.declared.fault.ElfFault.{ElfFault}
 use Rattle.elf_file.specs.Text.{name_of}
+use Rattle.elf_text.specs.Listing.{dumped, file_of_text}
+use Rattle.rv_text.specs.FaultLines.{line_of_fault as line_of_asm_fault}
+use Rattle.rv_text.specs.declared.fault.AsmFault.{AsmFault}
 use Rattle.rv32_emul.specs.Machine.{Outcome, Exits, Faults, More, machine}
 use Rattle.pareas_core.specs.declared.status.Status.{Status}
-use Rattle.pareas_core.specs.declared.status.Status.TheVariants.{Done, Refused, Limit, Running, Machine, Conflict, BadImage, BadGrammar}
+use Rattle.pareas_core.specs.declared.status.Status.TheVariants.{Done, Refused, Limit, Running, Machine, Conflict, BadImage, BadGrammar, BadAsm}
 use Rattle.grammar_file.specs.Grammar.{Grammar}
 use Rattle.grammar_file.specs.Spelling.{Spells}
 use Rattle.grammar_file.specs.declared.file.GrammarFault.{GrammarFault}
@@ -97,6 +100,18 @@ abbrev pub due_of_machine : List ℕ → Result Outcome ElfFault → Due
 due_of_machine before (Ok outcome) = record { status = status_of outcome; out = before ++ machine_line outcome; notes = [] }
 due_of_machine before (Err fault) = noted BadImage (codes "image " ++ name_of fault)
 
+-- ---- listings
+
+-- the listing of a file, or why it isn't loaded
+abbrev pub due_of_dump : Result (List ℕ) ElfFault → Due
+due_of_dump (Ok text) = done text
+due_of_dump (Err fault) = noted BadImage (codes "image " ++ name_of fault)
+
+-- the file of a listing, or the listing's first fault
+abbrev pub due_of_asm : Result (List ℕ) AsmFault → Due
+due_of_asm (Ok file) = done file
+due_of_asm (Err fault) = noted BadAsm (line_of_asm_fault fault)
+
 -- ---- a text that is made from a seed
 
 -- a name and a number
@@ -137,6 +152,8 @@ pub data IsDue : Command → List ℕ → Due → Type 0 where
   ran : {steps : ℕ} {bytes : List ℕ} {v : Verdict} → IsVerdict bytes v →
       IsDue (Run steps) bytes (due_of_verdict (λ p. due_of_machine [] (machine (image p) steps)) bytes v)
   emulated : {steps : ℕ} {bytes : List ℕ} → IsDue (Emu steps) bytes (due_of_machine [] (machine bytes steps))
+  listed : {bytes : List ℕ} → IsDue Dump bytes (due_of_dump (dumped bytes))
+  assembled : {bytes : List ℕ} → IsDue Asm bytes (due_of_asm (file_of_text bytes))
   -- a file that spells no grammar
   bad_grammar : {bytes : List ℕ} (fault : GrammarFault) → Spells bytes (Err fault) → IsDue Table bytes (noted BadGrammar (line_of_grammar_fault fault))
   tabled : {bytes : List ℕ} {d : Due} (g : Grammar) → Spells bytes (Ok g) → IsDueOfGrammar g d → IsDue Table bytes d

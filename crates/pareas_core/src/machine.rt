@@ -60,8 +60,8 @@ fn line(alloc: Global, outcome: &Outcome) -> Result<Vec<u8>, AllocError>
     }
 }
 
-// The refusal of a file that isn't loaded.
-fn not_loaded(alloc: Global, fault: ElfFault) -> Result<Response, AllocError>
+/// The refusal of a file that isn't loaded.
+pub(crate) fn not_loaded(alloc: Global, fault: ElfFault) -> Result<Response, AllocError>
     ensures { (before : List ℕ) → IfOk result (λ response. response ≡ due_of_machine before (Err fault)) }
 {
     Ok(Response {

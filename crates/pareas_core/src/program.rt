@@ -21,6 +21,9 @@ use std::thread::Threads;
 /// The most bytes of an image.
 const MOST_IMAGE: usize = 67_108_864;
 
+/// The most bytes of a listing.
+const MOST_LISTING: usize = 134_217_728;
+
 /// The most bytes of a grammar file.
 const MOST_GRAMMAR: usize = 65_536;
 
@@ -30,7 +33,8 @@ fn limit_of(command: Command) -> usize
 {
     match command {
         Command::Build | Command::Run { .. } => MOST_SOURCE,
-        Command::Emu { .. } => MOST_IMAGE,
+        Command::Emu { .. } | Command::Dump => MOST_IMAGE,
+        Command::Asm => MOST_LISTING,
         Command::Table => MOST_GRAMMAR,
         Command::Drill { .. } => 0,
     }

@@ -9,6 +9,7 @@ ghost use Rattle.pareas_core.specs.Headline.{IsDelivered, IsResponse, IsToldOf};
 use crate::compiler::compile;
 use crate::drill::drill;
 use crate::ends::ByteOut;
+use crate::listing::{asm, dump};
 use crate::machine::emulate;
 use crate::position::{column, line_number};
 use crate::status::Status;
@@ -116,6 +117,8 @@ pub(crate) fn respond(
         Command::Build => build(crew, bytes),
         Command::Run { steps } => run(crew, bytes, steps),
         Command::Emu { steps } => emulate(crew.alloc(), Vec::new(crew.alloc()), bytes, steps),
+        Command::Dump => dump(crew.alloc(), bytes),
+        Command::Asm => asm(crew.alloc(), bytes),
         Command::Table => table(crew.alloc(), bytes),
         Command::Drill { seed, functions } => drill(crew, seed, functions),
     }

@@ -29,6 +29,8 @@ pub enum Status {
     BadImage,
     /// The file isn't a grammar of the form that is read.
     BadGrammar,
+    /// The text isn't a listing of the form that is assembled.
+    BadAsm,
 }
 
 impl Status {
@@ -49,6 +51,7 @@ impl Status {
             Status::Conflict => 9,
             Status::BadImage => 10,
             Status::BadGrammar => 11,
+            Status::BadAsm => 12,
         }
     }
 }

@@ -354,6 +354,60 @@ fn emulates_images(rt: HostRuntime) -> Result<(), Fail> {
 }
 
 /// Images of one word or two that fault.
+/// The listing of `SEVEN_FILE`.
+const SEVEN_LISTING: &str = "\
+# 0x00010054
+jal x1, 12
+addi x17, x0, 93
+ecall
+addi x2, x2, -16
+sw x0, 0(x2)
+sw x1, 12(x2)
+sw x9, 8(x2)
+addi x9, x0, 7
+addi x10, x9, 0
+jal x0, 8
+addi x10, x0, 0
+lw x1, 12(x2)
+lw x9, 8(x2)
+addi x2, x2, 16
+jalr x0, 0(x1)
+";
+
+#[test]
+fn lists_images(rt: HostRuntime) -> Result<(), Fail> {
+    let rows: [(&[u8], Status, &[u8], &[u8]); 3] = [
+        (&SEVEN_FILE, Status::Done, SEVEN_LISTING.as_bytes(), b""),
+        (&SEVEN_FILE[..51], Status::BadImage, b"", b"image Short\n"),
+        (
+            &SEVEN_FILE[..143],
+            Status::BadImage,
+            b"",
+            b"image Segment 0\n",
+        ),
+    ];
+    for (file, status, out, notes) in rows {
+        let words = ["pareas", "dump"];
+        expect(&rt, rt.alloc(), &words, file, &SOUND, (status, out, notes))?;
+    }
+    Ok(())
+}
+
+#[test]
+fn assembles_listings(rt: HostRuntime) -> Result<(), Fail> {
+    let rows: [(&[u8], Status, &[u8], &[u8]); 4] = [
+        (SEVEN_LISTING.as_bytes(), Status::Done, &SEVEN_FILE, b""),
+        (b"addi x1, x0, 2048", Status::BadAsm, b"", b"asm line 1\n"),
+        (b"jal x1, 3", Status::BadAsm, b"", b"asm line 1\n"),
+        (b"", Status::BadAsm, b"", b"asm empty\n"),
+    ];
+    for (text, status, out, notes) in rows {
+        let words = ["pareas", "asm"];
+        expect(&rt, rt.alloc(), &words, text, &SOUND, (status, out, notes))?;
+    }
+    Ok(())
+}
+
 #[test]
 fn tells_faults(rt: HostRuntime) -> Result<(), Fail> {
     let rows: [(&[u32], &[u8]); 8] = [

@@ -1,5 +1,5 @@
 -- A listing is assembled to the words that it lists.
-use Rattle.std.proofs.Common.{◌≡◌, ℕ, ◌+◌, ◌-◌, ◌*◌, ◌%◌, ◌^◌, ◌<◌, ◌≤◌, List, [], ◌∷◌, ◌++◌, length, get_or, take, drop, Bool, true, false, cond, eqb, ltb, not, ◌&&◌, Some, Ok, refl, sym, ap, ◌∙◌, arith, append-nil, append_assoc, length-append, lit<}
+use Rattle.std.proofs.Common.{◌≡◌, ℕ, zero, suc, ◌+◌, ◌-◌, ◌*◌, ◌%◌, ◌^◌, ◌<◌, ◌≤◌, List, [], ◌∷◌, ◌++◌, length, get_or, take, drop, Bool, true, false, cond, eqb, ltb, not, ◌&&◌, Some, Ok, refl, sym, ap, ◌∙◌, arith, append-nil, append_assoc, length-append, lit<}
 use Rattle.std.proofs.lemmas.Bool.Decides.{nat_tests}
 use Rattle.std.specs.Prelude.{decimal, nat_lt, nat_le, option_and_then, ◌==◌}
 use Rattle.std.specs.List.{list_all, prefix_len, position_or_len, before_first, slice_split, All}
@@ -11,7 +11,7 @@ use Rattle.std.proofs.lemmas.List.Elements.{All-tail}
 use Rattle.rv_isa.specs.Encoding.{decoded}
 use Rattle.rv_text.specs.declared.operands.Operand.{Operand}
 use Rattle.rv_text.specs.declared.operands.Operand.TheVariants.{Register, Number, Address, Word}
-use Rattle.rv_text.specs.declared.lines.Line.TheVariants.{Spells}
+use Rattle.rv_text.specs.declared.lines.Line.TheVariants.{Blank, Spells}
 use Rattle.rv_text.specs.Written.{number_text, register_text, operand_text, further_text, operands_text, text, written_or_raw, line_of, listed}
 use Rattle.rv_text.specs.Reading.{is_blank, unindented, parted, operands, word_in, spelled, line_at, line_read}
 use Rattle.rv_text.specs.Assembled.{words_from, with_line, counted, assembled}
@@ -132,7 +132,7 @@ line_again name os w n good h =
 -- the line of a word
 record Line (w : ℕ) : Type 0 where
   is_shown_all : list_all is_shown (line_of w) ≡ true
-  is_short : length (line_of w) ≤ 31
+  is_short : length (line_of w) ≤ 26
   is_read : line_read (line_of w) ≡ Spells w
 
 line_facts : (w : ℕ) → w < 2 ^ 32 → Line w
@@ -165,9 +165,12 @@ unreturned [] h = refl
 unreturned (b ∷ s) h = let last : (get_or (b ∷ s) (length (b ∷ s) - 1) 0 == 13) ≡ false = no_return (get_or (b ∷ s) (length (b ∷ s) - 1) 0) (AllPass-from_list_all is_shown (b ∷ s) h (length (b ∷ s) - 1) 0 (omega arith)) in
     ap (λ t. cond t (take (length (b ∷ s) - 1) (b ∷ s)) (b ∷ s)) last
 
+-- a line of bytes that are no line feed, and what stands behind it
+line_split : (s t : List ℕ) → All (λ b. (b == 10) ≡ false) s → lines (s ++ 10 ∷ t) ≡ strip_carriage_return s ∷ lines t
+line_split s t all = ap lines_of_parts (slice_split_at (λ b. b == 10) s 10 t all refl) ∙ parts_more s (slice_split (λ b. b == 10) t) (some_part (λ b. b == 10) t)
+
 line_first : (s t : List ℕ) → list_all is_shown s ≡ true → lines (s ++ 10 ∷ t) ≡ s ∷ lines t
-line_first s t h = ap lines_of_parts (slice_split_at (λ b. b == 10) s 10 t (all_shown s h) refl)
-    ∙ (parts_more s (slice_split (λ b. b == 10) t) (some_part (λ b. b == 10) t) ∙ ap (λ l. l ∷ lines t) (unreturned s h))
+line_first s t h = line_split s t (all_shown s h) ∙ ap (λ l. l ∷ lines t) (unreturned s h)
 
 abbrev Words : List ℕ → Type 0
 Words ws = All (λ w. w < 2 ^ 32) ws
@@ -189,13 +192,13 @@ words_again n (w ∷ ws) h =
     ∙ (ap (words_from n) (line_first (line_of w) (listed ws) l.is_shown_all)
     ∙ (λ i. with_line n (l.is_read i) (words_again (n + 1) ws (tail w ws h) i)))
 
-listing_short : (ws : List ℕ) → Words ws → length (listed ws) ≤ 32 * length ws
+listing_short : (ws : List ℕ) → Words ws → length (listed ws) ≤ 27 * length ws
 listing_short [] h = omega arith
 listing_short (w ∷ ws) h =
     let l : Line w = line_facts w (head w ws h) in
     let e : length (line_of w ++ 10 ∷ listed ws) ≡ length (line_of w) + length (10 ∷ listed ws) = length-append (line_of w) (10 ∷ listed ws) in
     let f : length (listed (w ∷ ws)) ≡ length (line_of w ++ 10 ∷ listed ws) = ap length (one_line w ws) in
-    let g : length (listed ws) ≤ 32 * length ws = listing_short ws (tail w ws h) in
+    let g : length (listed ws) ≤ 27 * length ws = listing_short ws (tail w ws h) in
     omega (arith, l.is_short)
 
 many : (ws : List ℕ) → 0 < length ws → length ws ≤ 4194304 → counted (Ok ws) ≡ Ok ws
@@ -203,6 +206,32 @@ many ws some few = let p : eqb (length ws) 0 ≡ false = grind (arith, nat_tests
 
 pub listing_again : (ws : List ℕ) → Words ws → 0 < length ws → length ws ≤ 4194304 → assembled (listed ws) ≡ Ok ws
 listing_again ws h some few =
-    let short : length (listed ws) ≤ 32 * length ws = listing_short ws h in
+    let short : length (listed ws) ≤ 27 * length ws = listing_short ws h in
     let fits : ltb 134217728 (length (listed ws)) ≡ false = grind (arith, nat_tests) in
     rw fits (ap counted (words_again 1 ws h) ∙ many ws some few)
+
+-- a comment before them
+
+all_more : (b : ℕ) (s : List ℕ) → (b == 10) ≡ false → All (λ b. (b == 10) ≡ false) s → All (λ b. (b == 10) ≡ false) (b ∷ s)
+all_more b s p h zero d inside = p
+all_more b s p h (suc k) d inside = h k d (omega arith)
+
+comment_read : (c : List ℕ) → line_read (strip_carriage_return (0x23 ∷ c)) ≡ Blank
+comment_read [] = refl
+comment_read (b ∷ c) = go (get_or (0x23 ∷ b ∷ c) (length (0x23 ∷ b ∷ c) - 1) 0 == 13)
+  where
+    go : (t : Bool) → line_read (cond t (take (length (0x23 ∷ b ∷ c) - 1) (0x23 ∷ b ∷ c)) (0x23 ∷ b ∷ c)) ≡ Blank
+    go true = ap (λ n. line_read (take n (0x23 ∷ b ∷ c))) (let e : length (0x23 ∷ b ∷ c) - 1 ≡ suc (length c) = omega arith in e)
+    go false = refl
+
+headed_words : (c ws : List ℕ) → All (λ b. (b == 10) ≡ false) c → Words ws → words_from 1 (lines ((0x23 ∷ c) ++ 10 ∷ listed ws)) ≡ Ok ws
+headed_words c ws all h =
+    ap (words_from 1) (line_split (0x23 ∷ c) (listed ws) (all_more 0x23 c refl all))
+    ∙ (λ i. with_line 1 (comment_read c i) (words_again 2 ws h i))
+
+pub headed_again : (c ws : List ℕ) → All (λ b. (b == 10) ≡ false) c → length c ≤ 1000 → Words ws → 0 < length ws → length ws ≤ 4194304 → assembled (0x23 ∷ c ++ 10 ∷ listed ws) ≡ Ok ws
+headed_again c ws all brief h some few =
+    let short : length (listed ws) ≤ 27 * length ws = listing_short ws h in
+    let long : length ((0x23 ∷ c) ++ 10 ∷ listed ws) ≡ length (0x23 ∷ c) + length (10 ∷ listed ws) = length-append (0x23 ∷ c) (10 ∷ listed ws) in
+    let fits : ltb 134217728 (length ((0x23 ∷ c) ++ 10 ∷ listed ws)) ≡ false = grind (arith, nat_tests) in
+    rw fits (ap counted (headed_words c ws all h) ∙ many ws some few)

@@ -43,6 +43,7 @@ fn words(alloc: Global, text: &[u8]) -> Result<Vec<u32>, AsmFault>
 /// The words that the lines of a text spell, or its first fault.
 fn words_or_fault(alloc: Global, text: &[u8]) -> Result<Vec<u32>, AsmFault>
     ensures ok { IfOk result (λ words. assembled text.now ≡ Ok words.items) }
+    ensures few { IfOk result (λ words. length words.items ≤ 4194304) }
     ensures fault { IfErr result (λ fault. (fault ≡ NoMemory) ⊎ (assembled text.now ≡ Err fault)) }
 {
     if MOST_BYTES < text.len() {
@@ -58,10 +59,11 @@ fn words_or_fault(alloc: Global, text: &[u8]) -> Result<Vec<u32>, AsmFault>
     Ok(words)
 }
 
-/// The words that the lines of a text spell, or its first fault.
+/// The words that the lines of a text spell, of which there are at most 4,194,304, or its first fault.
 pub fn assemble(alloc: Global, text: &[u8]) -> Result<Vec<u32>, AsmFault>
     ensures ok { IfOk result (λ words. assembled text.now ≡ Ok words.items) }
     ensures fault { IfErr result (λ fault. (fault ≡ NoMemory) ⊎ (assembled text.now ≡ Err fault)) }
+    ensures few { IfOk result (λ words. length words.items ≤ 4194304) }
     ensures exactly { (told : Result (List ℕ) AnyFault) → IsAnswer text.now told
         → MatchResult result (λ words. told ≡ Ok words.items) (λ fault. (fault ≡ NoMemory) ⊎ (told ≡ Err fault)) }
 {

@@ -15,4 +15,4 @@ mod writing;
 pub use assembler::assemble;
 pub use fault::AsmFault;
 pub use laws::{listings_are_assembled, texts_have_one_answer};
-pub use writing::listing;
+pub use writing::{LONGEST_LINE, listing, push_hexadecimal, push_line};

@@ -28,7 +28,7 @@ use rv_isa::{Instr, decode};
 use std::alloc::{AllocError, Global};
 
 /// No line of a listing has more bytes, with its line feed.
-const LONGEST_LINE: usize = 22;
+pub const LONGEST_LINE: usize = 22;
 
 fn push_decimal(out: &mut Vec<u8>, number: u32) -> Result<(), AllocError>
     ensures { IfOk result (λ _. out.new.items ≡ out.old.items ++ decimal number) }
@@ -66,7 +66,8 @@ fn hex_digit(digit: u32) -> u8
     }
 }
 
-fn push_hexadecimal(out: &mut Vec<u8>, word: u32) -> Result<(), AllocError>
+/// Writes the eight hexadecimal digits of a word behind a text.
+pub fn push_hexadecimal(out: &mut Vec<u8>, word: u32) -> Result<(), AllocError>
     ensures { IfOk result (λ _. out.new.items ≡ out.old.items ++ hexadecimal word) }
 {
     let digits = [
@@ -288,14 +289,22 @@ fn push_word(out: &mut Vec<u8>, word: u32) -> Result<(), AllocError>
     }
 }
 
+/// Writes the line of a word behind a text, with its line feed.
+pub fn push_line(out: &mut Vec<u8>, word: u32) -> Result<(), AllocError>
+    ensures { IfOk result (λ _. out.new.items ≡ out.old.items ++ line_of word ++ 10 ∷ []) }
+{
+    push_word(out, word)?;
+    out.push(b'\n')?;
+    Ok(())
+}
+
 /// The lines of words, each with a line feed: the instruction of the word, or `.word` and the word where it is none.
 pub fn listing(alloc: Global, words: &[u32]) -> Result<Vec<u8>, AllocError>
     ensures { IfOk result (λ lines. lines.items ≡ listed words.now) }
 {
     let mut out = Vec::with_capacity(alloc, words.len().saturating_mul(LONGEST_LINE))?;
     for word in words {
-        push_word(&mut out, *word)?;
-        out.push(b'\n')?;
+        push_line(&mut out, *word)?;
     }
     Ok(out)
 }

@@ -1,0 +1,3 @@
+pub mod Words
+pub mod Again
+pub mod Pushed

@@ -1,0 +1,13 @@
+//! Listings of executable files: the text that tells a file's code, and the file of such a text.
+#![tactic(auto)]
+
+mod assembling;
+mod bytes;
+mod laws;
+mod listing;
+#[cfg(test)]
+mod tests;
+
+pub use assembling::asm;
+pub use laws::listings_give_their_files;
+pub use listing::dump;
