@@ -1,0 +1,116 @@
+// Calls of the program over memory: reads give at most ten bytes, and a write takes one.
+
+use chunk_seats::OpenGate;
+use pareas_core::{MemoryIn, MemoryOut, Status, pareas};
+use std::alloc::{AllocError, Global};
+use std::process::Abort;
+use std::thread::Threads;
+
+/// The words behind the program's name, and the bytes of the input.
+#[derive(Clone, Copy)]
+pub struct Call<'a> {
+    pub words: &'a [&'a str],
+    pub input: &'a [u8],
+}
+
+/// The one call of an end that fails, by its number from 1 on.
+#[derive(Clone, Copy, Debug)]
+pub enum Fault {
+    Nowhere,
+    Read(u64),
+    Output(u64),
+    Notes(u64),
+}
+
+impl Fault {
+    // The number of the read that fails.
+    fn of_reads(self) -> Option<u64> {
+        match self {
+            Fault::Read(number) => Some(number),
+            _ => None,
+        }
+    }
+
+    // The number of the write to the output that fails.
+    fn of_output(self) -> Option<u64> {
+        match self {
+            Fault::Output(number) => Some(number),
+            _ => None,
+        }
+    }
+
+    // The number of the write to the notes that fails.
+    fn of_notes(self) -> Option<u64> {
+        match self {
+            Fault::Notes(number) => Some(number),
+            _ => None,
+        }
+    }
+}
+
+/// The status of a call, and what it has written.
+#[derive(Clone, Copy)]
+pub struct Answer<'a> {
+    pub status: Status,
+    pub out: &'a [u8],
+    pub notes: &'a [u8],
+}
+
+/// The answer with a result.
+pub fn done(out: &[u8]) -> Answer<'_> {
+    Answer {
+        status: Status::Done,
+        out,
+        notes: b"",
+    }
+}
+
+/// The answer with a line of notes.
+pub fn refused(status: Status, notes: &[u8]) -> Answer<'_> {
+    Answer {
+        status,
+        out: b"",
+        notes,
+    }
+}
+
+/// The program's name and these words, each a copy.
+pub fn all_words(alloc: Global, words: &[&str]) -> Result<Vec<String>, AllocError> {
+    let mut all = Vec::new(alloc);
+    all.push(String::from_str(alloc, "pareas")?)?;
+    for word in words {
+        all.push(String::from_str(alloc, word)?)?;
+    }
+    Ok(all)
+}
+
+// The list of the number, if there is one.
+fn numbers(alloc: Global, number: Option<u64>) -> Result<Vec<u64>, AllocError> {
+    let mut numbers = Vec::new(alloc);
+    if let Some(number) = number {
+        numbers.push(number)?;
+    }
+    Ok(numbers)
+}
+
+/// Calls the program over ends of which one fails so, and sees that it answers this.
+pub fn expect<R: Threads + Abort + Sync>(
+    rt: &R,
+    alloc: Global,
+    call: Call,
+    fault: Fault,
+    answer: Answer,
+) -> Result<(), AllocError> {
+    let words = all_words(alloc, call.words)?;
+    let bytes = call.input.to_vec(alloc)?;
+    let mut input = MemoryIn::new(bytes, 10, numbers(alloc, fault.of_reads())?);
+    let mut out = MemoryOut::new(alloc, 1, numbers(alloc, fault.of_output())?);
+    let mut notes = MemoryOut::new(alloc, 1, numbers(alloc, fault.of_notes())?);
+    let status = pareas(
+        rt, alloc, &words, &mut input, &mut out, &mut notes, &OpenGate,
+    );
+    assert_eq!(rt; status, answer.status, "{fault:?}");
+    assert_eq!(rt; out.written(), answer.out, "{fault:?}");
+    assert_eq!(rt; notes.written(), answer.notes, "{fault:?}");
+    Ok(())
+}
