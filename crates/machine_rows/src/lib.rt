@@ -4,6 +4,8 @@
 #[cfg(test)]
 mod files;
 #[cfg(test)]
+mod headers;
+#[cfg(test)]
 mod linked;
 #[cfg(test)]
 mod machines;

@@ -79,6 +79,79 @@ fn faults(rt: HostRuntime) -> Result<(), Fail> {
     Ok(())
 }
 
+/// Four words, how many steps go on, and the fault of the next one: its kind, its pc and its address.
+const LATE_FAULTS: [([u32; 4], u64, FaultKind, u32, u32); 7] = [
+    // down the stack by 256 KiB a turn: lui t0,0x40; sub sp,sp,t0; sw sp,0(sp); j -8
+    (
+        [0x000402B7, 0x40510133, 0x00212023, 0xFF9FF06F],
+        14,
+        FaultKind::Store,
+        0x1005C,
+        0x6FFC0000,
+    ),
+    // up the code by a word a turn: lui t0,0x10; lw t1,84(t0); addi t0,t0,4; j -8
+    (
+        [0x000102B7, 0x0542A303, 0x00428293, 0xFF9FF06F],
+        13,
+        FaultKind::Load,
+        0x10058,
+        0x10064,
+    ),
+    // behind the last word
+    (
+        [0x00000013, 0x00000013, 0x00000013, 0x00000013],
+        4,
+        FaultKind::Fetch,
+        0x10064,
+        0x10064,
+    ),
+    // no instruction
+    (
+        [0x00000013, 0x00000013, 0x00000000, 0x00000013],
+        2,
+        FaultKind::Unknown,
+        0x1005C,
+        0x1005C,
+    ),
+    // lui t0,0x10; jalr ra,86(t0)
+    (
+        [0x00000013, 0x000102B7, 0x056280E7, 0x00000013],
+        2,
+        FaultKind::Misaligned,
+        0x1005C,
+        0x10056,
+    ),
+    // lw t0,2(zero)
+    (
+        [0x00000013, 0x00202283, 0x00000013, 0x00000013],
+        1,
+        FaultKind::Misaligned,
+        0x10058,
+        2,
+    ),
+    // ebreak
+    (
+        [0x00000013, 0x00000013, 0x00000013, 0x00100073],
+        3,
+        FaultKind::Call,
+        0x10060,
+        0x10060,
+    ),
+];
+
+/// Faults behind steps that go on, in one run and behind a run of just these steps.
+#[test]
+fn late_faults(rt: HostRuntime) -> Result<(), Fail> {
+    for (words, steps, kind, at, address) in LATE_FAULTS {
+        let mut m = machine(rt.alloc(), &words)?;
+        assert_eq!(rt; m.run(steps), Outcome::More, "before {at:x}");
+        assert_eq!(rt; m.run(1), fault(kind, at, address));
+        let mut m = machine(rt.alloc(), &words)?;
+        assert_eq!(rt; m.run(u64::MAX), fault(kind, at, address));
+    }
+    Ok(())
+}
+
 /// Instructions, their two operands and their values.
 const OPERATIONS: [(u32, u32, u32, u32); 57] = [
     (0x00628533, 0xFFFFFFFF, 0x1, 0x0), // add x10,x5,x6
