@@ -139,14 +139,19 @@ const LATE_FAULTS: [([u32; 4], u64, FaultKind, u32, u32); 7] = [
     ),
 ];
 
+/// The machine of four words.
+fn machine_of_four(alloc: Global, words: [u32; 4]) -> Result<Machine, ReadError> {
+    machine(alloc, &words)
+}
+
 /// Faults behind steps that go on, in one run and behind a run of just these steps.
 #[test]
 fn late_faults(rt: HostRuntime) -> Result<(), Fail> {
     for (words, steps, kind, at, address) in LATE_FAULTS {
-        let mut m = machine(rt.alloc(), &words)?;
+        let mut m = machine_of_four(rt.alloc(), words)?;
         assert_eq!(rt; m.run(steps), Outcome::More, "before {at:x}");
         assert_eq!(rt; m.run(1), fault(kind, at, address));
-        let mut m = machine(rt.alloc(), &words)?;
+        let mut m = machine_of_four(rt.alloc(), words)?;
         assert_eq!(rt; m.run(u64::MAX), fault(kind, at, address));
     }
     Ok(())
