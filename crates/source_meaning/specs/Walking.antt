@@ -1,7 +1,7 @@
 -- Where the walk of a program stands: what it comes to, and that each step comes to the same with less left to do.
 use Rattle.std.specs.Prelude.{◌≡◌, ℕ, suc, ◌+◌, ◌<◌, List, ◌∷◌, map, Option, Some, None, Result, Ok, Err}
 use Rattle.source_meaning.specs.Ast.{Expr as ExprTree, Args as ArgsTree, Stmt as StmtTree, Stmts as StmtsTree, Function as FunctionTree, Program}
-use Rattle.source_meaning.specs.Meaning.{Deep as AtDeep, More as AtMore, Run, Outcome, Stopped, returned, call_in}
+use Rattle.source_meaning.specs.Meaning.{Deep as AtDeep, More as AtMore, Run, gives, Outcome, Stopped, returned, call_in}
 use Rattle.source_meaning.specs.Trees.{function_of}
 use Rattle.source_meaning.specs.Resuming.{Opened, opened, with_table, stacked, onwards, resume, leave, value_in, call_with, run_in, run_all_in}
 use Rattle.source_meaning.specs.Weights.{expr_weight, args_weight, stmt_weight, stmts_weight, call_weight, rests_weight}
@@ -26,6 +26,10 @@ with_value w r = onwards r (λ y t. resume (program_in w) w.turns (stacked w.res
 
 abbrev pub settled : Walker → Run (Option ℕ) → Outcome
 settled w r = onwards r (λ s t. elim s [ None ↦ resume (program_in w) w.turns (stacked w.rests) (with_table (opened w.call) t) 0 | Some v ↦ leave (program_in w) w.turns (stacked w.rests) v ])
+
+-- the expression has this value, and changes nothing
+abbrev pub HasValue : Walker → ExprTree → ℕ → Type 0
+HasValue w e x = value_in (program_in w) w.turns (opened w.call) e ≡ gives x w.call.table.items
 
 -- an expression, the arguments of a call that are left behind others, a call, a statement, statements
 abbrev pub evaluated : Walker → ExprTree → Outcome

@@ -8,10 +8,11 @@ ghost use Rattle.source_meaning.specs.Running.{CallsTo, told, value_numbered, st
 ghost use Rattle.source_meaning.specs.Resuming.{opened, stacked};
 ghost use Rattle.source_meaning.specs.Numbering.{next_in};
 ghost use Rattle.source_meaning.specs.Weights.{stmt_weight, heaviest};
-ghost use Rattle.source_meaning.specs.Walking.{program_in, meant, Gives, EvaluatesThen, Evaluates, Computes, Opens, Runs, RunsAll, Resumes, Departs, GoesBack};
-ghost use Rattle.source_meaning.specs.declared.rests.Rest.TheVariants.{IfElse, Turn};
+ghost use Rattle.source_meaning.specs.Walking.{program_in, meant, Gives, HasValue, EvaluatesThen, Evaluates, Computes, Opens, Runs, RunsAll, Resumes, Departs, GoesBack};
+ghost use Rattle.source_meaning.specs.declared.rests.Rest.TheVariants.{Binary as Applied, IfElse, Right as RightSide, Turn};
 
 use crate::callees::{Callee, callees_of};
+use crate::kinds::BinaryOp;
 use crate::names::{Named, Names};
 use crate::numbering::{next_number, parts_of};
 use crate::operators::{apply_binary, apply_unary};
@@ -143,13 +144,53 @@ impl<'a> Walker<'a> {
         Ok(())
     }
 
-    /// Computes an expression, and then does the rest with its value.
+    /// The value of an expression that is a number, a truth value or a variable.
+    fn leaf(&self, e: &Expr) -> Option<u32>
+        ensures { MatchOption result (Unit {0}) (HasValue self.now (expr_of e.now)) }
+    {
+        match e {
+            Expr::Num { value, .. } => Some(*value),
+            Expr::Truth { value, .. } => Some(u32::from(*value)),
+            Expr::Name { name, .. } => Some(self.value_of(name)),
+            _ => None,
+        }
+    }
+
+    /// Computes an expression, and then does the rest with its value. A leaf is computed at once.
     fn evaluate_then(&mut self, e: &'a Expr, rest: Rest<'a>) -> Result<(), Stop>
         ensures { EvaluatesThen self.old (expr_of e.now) rest.entry result self.new }
     {
-        self.rests.push(rest)?;
-        self.rests.push(Rest::Evaluate(e))?;
-        Ok(())
+        match self.leaf(e) {
+            Some(value) => {
+                self.rests.push(rest)?;
+                self.give(value)
+            }
+            None => {
+                self.rests.push(rest)?;
+                self.rests.push(Rest::Evaluate(e))?;
+                Ok(())
+            }
+        }
+    }
+
+    /// Applies an operator to a left side of this value and to a right side, which is computed first.
+    fn apply(&mut self, op: BinaryOp, left: u32, right: &'a Expr) -> Result<(), Stop>
+        ensures { EvaluatesThen self.old (expr_of right.now) (Applied op left) result self.new }
+    {
+        match self.leaf(right) {
+            Some(value) => self.give(apply_binary(op, left, value)),
+            None => self.evaluate_then(right, Rest::Binary { op, left }),
+        }
+    }
+
+    /// Computes both sides of an operator, and applies it.
+    fn operate(&mut self, op: BinaryOp, left: &'a Expr, right: &'a Expr) -> Result<(), Stop>
+        ensures { EvaluatesThen self.old (expr_of left.now) (RightSide op right.entry) result self.new }
+    {
+        match self.leaf(left) {
+            Some(value) => self.apply(op, value, right),
+            None => self.evaluate_then(left, Rest::Right { op, right }),
+        }
     }
 
     /// Computes an expression.
@@ -170,7 +211,7 @@ impl<'a> Walker<'a> {
                 left,
                 right,
                 ..
-            } => self.evaluate_then(left, Rest::Right { op: *op, right }),
+            } => self.operate(*op, left, right),
             Expr::And { left, right, .. } => self.evaluate_then(left, Rest::And(right)),
             Expr::Or { left, right, .. } => self.evaluate_then(left, Rest::Or(right)),
             Expr::Assign { left, right, .. } => {
@@ -371,10 +412,7 @@ impl<'a> Walker<'a> {
         match rest {
             Rest::Evaluate(e) => self.evaluate(e),
             Rest::Unary(op) => self.give(apply_unary(op, value)),
-            Rest::Right { op, right } => self.evaluate_then(
-                right,
-                Rest::Binary { op, left: value },
-            ),
+            Rest::Right { op, right } => self.apply(op, value, right),
             Rest::Binary { op, left } => self.give(apply_binary(op, left, value)),
             Rest::And(right) => {
                 if value == 0 {

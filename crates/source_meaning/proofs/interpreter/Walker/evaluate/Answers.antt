@@ -6,7 +6,7 @@ pub returns-in-Unary : goal.returns-in-Unary
 returns-in-Unary c = rw (c.in-Unary.is, sym c.deref-in-Unary.ensures) (unary_goes _ _ _ _ _ _ c.evaluate_then.ensures)
 
 pub returns-in-Binary : goal.returns-in-Binary
-returns-in-Binary c = rw (c.in-Binary.is, sym c.deref-in-Binary.ensures, sym c.deref-in-Binary-2.ensures) (binary_goes _ _ _ _ _ _ _ c.evaluate_then-in-Binary.ensures)
+returns-in-Binary c = rw (c.in-Binary.is, sym c.deref-in-Binary.ensures, sym c.deref-in-Binary-2.ensures) (binary_goes _ _ _ _ _ _ _ c.operate.ensures)
 
 pub returns-in-And : goal.returns-in-And
 returns-in-And c = rw (c.in-And.is, sym c.deref-in-And.ensures, sym c.deref-in-And-2.ensures) (and_goes _ _ _ _ _ _ c.evaluate_then-in-And.ensures)
