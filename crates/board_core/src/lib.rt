@@ -11,6 +11,3 @@ mod steps;
 pub use boards::Core;
 pub use laws::{every_schedule, worked_schedule};
 pub use steps::{Event, Reply, Status};
-
-#[cfg(test)]
-mod tests;

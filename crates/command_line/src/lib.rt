@@ -11,6 +11,3 @@ pub use command::Command;
 pub use laws::{taken_words_ask, worked_words};
 pub use parser::{Refusal, read};
 pub use request::Request;
-
-#[cfg(test)]
-mod tests;

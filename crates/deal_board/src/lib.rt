@@ -10,6 +10,3 @@ mod returned;
 pub use board::{DealBoard, Seat};
 pub use goods::Goods;
 pub use returned::Returned;
-
-#[cfg(test)]
-mod tests;

@@ -9,6 +9,3 @@ mod text;
 pub use generator::Generator;
 pub use laws::worked_texts;
 pub use text::source;
-
-#[cfg(test)]
-mod tests;

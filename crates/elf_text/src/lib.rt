@@ -5,8 +5,6 @@ mod assembling;
 mod bytes;
 mod laws;
 mod listing;
-#[cfg(test)]
-mod tests;
 
 pub use assembling::asm;
 pub use laws::listings_give_their_files;

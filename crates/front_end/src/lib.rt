@@ -15,8 +15,3 @@ pub use phases::{lexed, named, parsed, shaped, typed};
 pub use places::place;
 pub use refusal::Refusal;
 pub use tables::language_tables;
-
-#[cfg(test)]
-mod row_tests;
-#[cfg(test)]
-mod tests;

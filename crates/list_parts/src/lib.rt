@@ -13,6 +13,3 @@ mod writes;
 
 pub use lend::with_part;
 pub use part::Part;
-
-#[cfg(test)]
-mod tests;

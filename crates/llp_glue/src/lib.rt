@@ -5,6 +5,3 @@ mod gluing;
 
 pub use glue_summary::ParseFault;
 pub use gluing::parse;
-
-#[cfg(test)]
-mod tests;

@@ -1,12 +1,16 @@
-//! Worked words, files and machines, with values from the standards and from another assembler.
+//! Worked words, listings, files and machines, with values from the standards and from another assembler.
 #![tactic(auto)]
 
+#[cfg(test)]
+mod dumps;
 #[cfg(test)]
 mod files;
 #[cfg(test)]
 mod headers;
 #[cfg(test)]
 mod linked;
+#[cfg(test)]
+mod listings;
 #[cfg(test)]
 mod machines;
 #[cfg(test)]

@@ -10,6 +10,3 @@ mod minima;
 
 pub use laws::{next_is_one, previous_is_one};
 pub use minima::Minima;
-
-#[cfg(test)]
-mod tests;

@@ -6,6 +6,3 @@ mod all;
 mod stretches;
 
 pub use all::all_nearest;
-
-#[cfg(test)]
-mod tests;

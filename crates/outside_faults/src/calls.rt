@@ -6,6 +6,9 @@ use std::alloc::{AllocError, Global};
 use std::process::Abort;
 use std::thread::Threads;
 
+/// Room for more bytes than any of these calls writes.
+pub const ROOM: usize = 1 << 16;
+
 /// The words behind the program's name, and the bytes of the input.
 #[derive(Clone, Copy)]
 pub struct Call<'a> {
@@ -104,8 +107,8 @@ pub fn expect<R: Threads + Abort + Sync>(
     let words = all_words(alloc, call.words)?;
     let bytes = call.input.to_vec(alloc)?;
     let mut input = MemoryIn::new(bytes, 10, numbers(alloc, fault.of_reads())?);
-    let mut out = MemoryOut::new(alloc, 1, numbers(alloc, fault.of_output())?);
-    let mut notes = MemoryOut::new(alloc, 1, numbers(alloc, fault.of_notes())?);
+    let mut out = MemoryOut::new(alloc, ROOM, 1, numbers(alloc, fault.of_output())?)?;
+    let mut notes = MemoryOut::new(alloc, ROOM, 1, numbers(alloc, fault.of_notes())?)?;
     let status = pareas(
         rt, alloc, &words, &mut input, &mut out, &mut notes, &OpenGate,
     );

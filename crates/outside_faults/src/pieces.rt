@@ -1,6 +1,6 @@
 // How many bytes a read asks for, and a write hands over.
 
-use crate::calls::{Call, all_words};
+use crate::calls::{Call, ROOM, all_words};
 use crate::seven::{SEVEN, SEVEN_FILE};
 use chunk_seats::OpenGate;
 use pareas_core::{ByteIn, ByteOut, Failed, MemoryIn, MemoryOut, pareas};
@@ -88,8 +88,8 @@ fn expect_reads<R: Threads + Abort + Sync>(
         reads: 0,
         odd: 0,
     };
-    let mut out = MemoryOut::new(alloc, 4096, Vec::new(alloc));
-    let mut notes = MemoryOut::new(alloc, 4096, Vec::new(alloc));
+    let mut out = MemoryOut::new(alloc, ROOM, 4096, Vec::new(alloc))?;
+    let mut notes = MemoryOut::new(alloc, ROOM, 4096, Vec::new(alloc))?;
     pareas(
         rt, alloc, &words, &mut input, &mut out, &mut notes, &OpenGate,
     );
@@ -172,13 +172,13 @@ fn reads_up_to_one_byte_past_the_limit_of_images(rt: HostRuntime) -> Result<(), 
 }
 
 /// An output of ten bytes a write, which is to get so many.
-fn watched(alloc: Global, due: usize) -> WatchedOut<MemoryOut> {
-    WatchedOut {
-        inner: MemoryOut::new(alloc, 10, Vec::new(alloc)),
+fn watched(alloc: Global, due: usize) -> Result<WatchedOut<MemoryOut>, AllocError> {
+    Ok(WatchedOut {
+        inner: MemoryOut::new(alloc, due, 10, Vec::new(alloc))?,
         left: due,
         writes: 0,
         odd: 0,
-    }
+    })
 }
 
 /// Calls the program, and sees that both outputs get so many bytes in so many writes, each as it should be.
@@ -191,8 +191,8 @@ fn expect_writes<R: Threads + Abort + Sync>(
 ) -> Result<(), AllocError> {
     let words = all_words(alloc, call.words)?;
     let mut input = MemoryIn::new(call.input.to_vec(alloc)?, 4096, Vec::new(alloc));
-    let mut out = watched(alloc, due);
-    let mut notes = watched(alloc, due_notes);
+    let mut out = watched(alloc, due)?;
+    let mut notes = watched(alloc, due_notes)?;
     pareas(
         rt, alloc, &words, &mut input, &mut out, &mut notes, &OpenGate,
     );

@@ -17,8 +17,3 @@ pub use chunk::{chunk_start, count_chunks};
 pub use chunk_seats::{Crew, Workers};
 pub use passes::Passes;
 pub use scan_lookback::{Lift, Lifted};
-
-#[cfg(test)]
-mod callers;
-#[cfg(test)]
-mod tests;

@@ -10,9 +10,10 @@ pub record InMemory : Type 0 where
   pub calls : ℕ
   pub faults : ℕ
 
--- an output: the bytes written, and the same of its writes
+-- an output: the bytes written, how many more have room, and the same of its writes
 pub record OutMemory : Type 0 where
   pub written : List ℕ
+  pub room : ℕ
   pub step : ℕ
   pub failing : List ℕ
   pub calls : ℕ

@@ -4,7 +4,7 @@ ghost use Rattle.front_end.specs.Front.{IsRefusedBy};
 ghost use Rattle.source_meaning.specs.Lexemes.{tokens};
 ghost use Rattle.pareas_core.specs.Headline.{CompilesTo};
 
-use crate::code::code;
+use crate::coding::code;
 use elf_file::write;
 use front_end::{Refusal, front};
 use par_passes::Passes;

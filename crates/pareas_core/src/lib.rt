@@ -1,7 +1,7 @@
 //! The compiler from source text to an executable file, and what its program reads and writes.
 #![tactic(auto)]
 
-mod code;
+mod coding;
 mod compiler;
 mod counts;
 mod drill;
@@ -19,6 +19,7 @@ mod status;
 mod table;
 mod writing;
 
+pub use coding::code;
 pub use compiler::compile;
 pub use ends::{ByteIn, ByteOut, Failed};
 pub use front_end::{Analysis, Refusal, front};
@@ -26,8 +27,3 @@ pub use laws::images_are_listed_and_assembled;
 pub use memory::{MemoryIn, MemoryOut};
 pub use program::pareas;
 pub use status::Status;
-
-#[cfg(test)]
-mod gate_tests;
-#[cfg(test)]
-mod tests;

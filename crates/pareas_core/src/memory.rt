@@ -1,12 +1,12 @@
 // Ends in memory: for tests, and for callers that have all bytes at hand.
 
-ghost use Rattle.std.specs.Prelude.{◌≡◌, ◌+◌, ◌-◌, ◌^◌, ◌<◌, ◌≤◌, ◌↔◌, [], drop, length, min, Contains, IfOk, IsErr, OnOk};
+ghost use Rattle.std.specs.Prelude.{◌≡◌, ◌+◌, ◌-◌, ◌^◌, ◌<◌, ◌≤◌, ◌↔◌, ◌⊎◌, [], drop, length, min, Contains, IfOk, IsErr, OnOk};
 ghost use Rattle.std.specs.Io.{ReadsAtMost, WritesAtMost};
 ghost use Rattle.std.specs.Io.KnownBytes.{ReadConsumes, WriteAppends};
 ghost use Rattle.pareas_core.specs.Causes.{HasCause};
 
 use crate::ends::{ByteIn, ByteOut, Failed};
-use std::alloc::Global;
+use std::alloc::{AllocError, Global};
 use std::marker::Model;
 
 /// An input over bytes in memory. A read gives at most `step` bytes, and some reads fail, by their numbers
@@ -78,11 +78,12 @@ impl ByteIn for MemoryIn {
     }
 }
 
-/// An output into memory. A write takes at most `step` bytes, and some writes fail, by their numbers from 1
-/// on; so does one for which memory runs out.
+/// An output into memory that has room for so many bytes. A write takes at most `step` bytes. Some writes fail, by their
+/// numbers from 1 on, and so does each whose bytes have no room any more, as on a full disk.
 #[derive(Drop)]
 pub struct MemoryOut {
     written: Vec<u8>,
+    room: usize,
     step: usize,
     failing: Vec<u64>,
     calls: u64,
@@ -90,29 +91,35 @@ pub struct MemoryOut {
 }
 
 impl Model for MemoryOut {
-    ghost use Rattle.std.specs.Prelude.{◌≤◌};
+    ghost use Rattle.std.specs.Prelude.{◌+◌, ◌≤◌, vec_capacity, vec_len};
     ghost use Rattle.pareas_core.specs.Memory.{OutMemory};
 
     ghost Value = { OutMemory };
 
-    ghost view = { λ m. record { written = m.written.items; step = m.step; failing = m.failing.items; calls = m.calls; faults = m.faults } };
+    ghost view = { λ m. record { written = m.written.items; room = m.room; step = m.step; failing = m.failing.items; calls = m.calls; faults = m.faults } };
 
-    ghost invariant = { λ m. 1 ≤ m.step };
+    ghost invariant = { λ m. (1 ≤ m.step) × (vec_len m.written + m.room ≤ vec_capacity m.written) };
 }
 
 impl MemoryOut {
-    /// An output into which nothing was written.
-    pub fn new(alloc: Global, step: usize, failing: Vec<u64>) -> Self
+    /// An output with room for so many bytes, into which nothing was written.
+    pub fn new(
+        alloc: Global,
+        room: usize,
+        step: usize,
+        failing: Vec<u64>,
+    ) -> Result<Self, AllocError>
         requires { 1 ≤ step }
-        ensures { result ≡ record { written = []; step = step; failing = failing.items; calls = 0; faults = 0 } }
+        ensures { IfOk result (λ m. m ≡ record { written = []; room = room; step = step; failing = failing.items; calls = 0; faults = 0 }) }
     {
-        MemoryOut {
-            written: Vec::new(alloc),
+        Ok(MemoryOut {
+            written: Vec::with_capacity(alloc, room)?,
+            room,
             step,
             failing,
             calls: 0,
             faults: 0,
-        }
+        })
     }
 
     /// All bytes that were written.
@@ -135,15 +142,17 @@ impl ByteOut for MemoryOut {
         ensures progress { IfOk result (λ n. 0 < length buf.now → 0 < n) }
         ensures bytes { WriteAppends (Some self.old.written) (Some self.new.written) result buf.now }
         ensures cause { HasCause self.old.faults self.new.faults result }
-        ensures failing { Contains self.old.failing self.new.calls → IsErr result }
+        ensures failing { IsErr result ↔ (Contains self.old.failing self.new.calls ⊎ (self.old.room < min (length buf.now) self.old.step)) }
+        ensures room { self.new.room + length self.new.written ≡ self.old.room + length self.old.written }
         ensures counted { self.new.calls ≡ min (self.old.calls + 1) (2 ^ 64 - 1) }
         ensures piece { IfOk result (λ n. n ≡ min (length buf.now) self.old.step) }
         ensures kept { (self.new.step ≡ self.old.step) × (self.new.failing ≡ self.old.failing) }
     {
         self.calls = self.calls.saturating_add(1);
         let count = buf.len().min(self.step);
-        let takes = !self.failing.contains(&self.calls);
+        let takes = count <= self.room && !self.failing.contains(&self.calls);
         if takes && self.written.extend_from_slice(&buf[..count]).is_ok() {
+            self.room -= count;
             return Ok(count);
         }
         self.faults = self.faults.saturating_add(1);

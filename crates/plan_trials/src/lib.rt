@@ -9,6 +9,9 @@ use std::thread::Threads;
 /// Bytes that a read or a write moves at a time.
 const STEP: usize = 1 << 20;
 
+/// Room for the image of any source, and more than any line needs.
+const ROOM: usize = 1 << 21;
+
 /// The numbers of workers, each of which makes a plan with each size of chunks.
 const WORKERS: [&str; 3] = ["1", "4", "64"];
 
@@ -50,8 +53,8 @@ pub fn call<R: Threads + Sync>(
         all.push(String::from_str(alloc, word)?)?;
     }
     let mut input = MemoryIn::new(source.to_vec(alloc)?, STEP, Vec::new(alloc));
-    let mut out = MemoryOut::new(alloc, STEP, Vec::new(alloc));
-    let mut notes = MemoryOut::new(alloc, STEP, Vec::new(alloc));
+    let mut out = MemoryOut::new(alloc, ROOM, STEP, Vec::new(alloc))?;
+    let mut notes = MemoryOut::new(alloc, ROOM, STEP, Vec::new(alloc))?;
     pareas(rt, alloc, &all, &mut input, &mut out, &mut notes, &OpenGate);
     Ok(Written { out, notes })
 }

@@ -10,6 +10,3 @@ mod rounds;
 
 pub use ancestors::nearest;
 pub use laws::{climbs_are_one, every_node_climbs};
-
-#[cfg(test)]
-mod tests;

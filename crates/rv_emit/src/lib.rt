@@ -22,6 +22,3 @@ pub use piece_sizes::sizes;
 pub use program::code;
 pub use unit::code_columns;
 pub use words::emit;
-
-#[cfg(test)]
-mod tests;

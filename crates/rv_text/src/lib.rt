@@ -8,8 +8,6 @@ mod lines;
 mod mnemonics;
 mod operands;
 mod pieces;
-#[cfg(test)]
-mod tests;
 mod writing;
 
 pub use assembler::assemble;

@@ -28,8 +28,3 @@ pub use steps::Steps;
 pub use views::{Chunks, Codes, Lift, Lifted, LookView};
 pub use word_monoid::{Count, Greatest, Signed, WordMonoid};
 pub use worked::worked_look_back;
-
-#[cfg(test)]
-mod board_tests;
-#[cfg(test)]
-mod tests;

@@ -9,6 +9,3 @@ mod views;
 mod work;
 
 pub use at_places::{scatter, scatter_is_unique};
-
-#[cfg(test)]
-mod tests;

@@ -18,6 +18,3 @@ pub use laws::{
     bytes_have_items, composition_is_associative, few_or_too_many, prefixes_are_runs, words_compose,
 };
 pub use states::States;
-
-#[cfg(test)]
-mod tests;

@@ -12,6 +12,3 @@ pub use greatest::{Greatest, greatest_is_there};
 pub use laws::{prefixes_by_number, prefixes_by_steps};
 pub use monoid::WordMonoid;
 pub use signed::{Signed, signed_sums_are_exact};
-
-#[cfg(test)]
-mod tests;

@@ -1,0 +1,66 @@
+ghost use Rattle.std.specs.Prelude.{◌≡◌, ◌≤◌, [], length, vec_capacity};
+ghost use Rattle.list_parts.specs.Parts.{part_items, SamePlaces, Fits};
+
+use list_parts::{Part, with_part};
+use std::test::*;
+use std::thread::{Threads, join};
+
+fn mend(whole: Part<u64>, _nothing: ()) -> (Part<u64>, ())
+    requires { (length (part_items whole) ≡ 6) × Fits 8 6 }
+    ensures { SamePlaces whole result.0 }
+{
+    let (front, rest) = whole.cut(2);
+    let (middle, back) = rest.cut(2);
+    let middle = middle.set(0, 30).copy_in(1, &[40]);
+    (front.glue(middle).glue(back), ())
+}
+
+fn pair(mut part: Part<u64>, first: u64, second: u64) -> Part<u64>
+    requires { length (part_items part) ≡ 2 }
+    ensures { SamePlaces part result }
+{
+    part.map_in(&[first, second], &|x: u64| x);
+    part
+}
+
+fn in_two_threads<R: Threads>(whole: Part<u64>, rt: &R) -> (Part<u64>, ())
+    requires { (length (part_items whole) ≡ 4) × Fits 8 4 }
+    ensures { SamePlaces whole result.0 }
+{
+    let (front, back) = whole.cut(2);
+    let (front, back) = join(rt, || pair(front, 1, 2), || pair(back, 3, 4));
+    (front.glue(back), ())
+}
+
+// Into chunks of two, and one part again, all of whose places are then written.
+fn by_chunks(whole: Part<u64>, room: Vec<Part<u64>>) -> (Part<u64>, ())
+    requires whole { (length (part_items whole) ≡ 5) × Fits 8 5 }
+    requires room { (room.items ≡ []) × (3 ≤ vec_capacity room) }
+    ensures { SamePlaces whole result.0 }
+{
+    let glued = Part::glue_all(whole.cut_all(2, 3, room));
+    (glued.copy_in(0, &[10, 20, 30, 40, 50]), ())
+}
+
+#[test]
+fn three_parts(rt: HostRuntime) {
+    let mut list = [1, 2, 3, 4, 5, 6];
+    with_part(&mut list, (), mend);
+    assert_eq!(rt; list, [1, 2, 30, 40, 5, 6]);
+}
+
+#[test]
+fn two_threads(rt: HostRuntime) {
+    let mut list = [0; 4];
+    with_part(&mut list, &rt, in_two_threads);
+    assert_eq!(rt; list, [1, 2, 3, 4]);
+}
+
+#[test]
+fn chunks_are_glued(rt: HostRuntime) -> Result<(), Fail> {
+    let mut list = [1, 2, 3, 4, 5];
+    let room = Vec::with_capacity(rt.alloc(), 3)?;
+    with_part(&mut list, room, by_chunks);
+    assert_eq!(rt; list, [10, 20, 30, 40, 50]);
+    Ok(())
+}

@@ -1,0 +1,218 @@
+//! Left parses and syntax places of worked words, for every kind of plan.
+ghost use Rattle.std.specs.Prelude.{◌<◌};
+
+use chunk_seats::{Gate, OpenGate, Plan};
+use grammar_file::{G1, Grammar};
+use llp_glue::{ParseFault, parse};
+use llp_tables::Tables;
+use par_passes::{Passes, Workers};
+use std::alloc::{AllocError, Global};
+use std::process::Abort;
+use std::sync::atomic::{AtomicU64, Ordering};
+use std::test::*;
+use std::thread::Threads;
+
+// The tables that a text's grammar has, if it has some.
+fn tables_of(alloc: Global, text: &[u8]) -> Option<Tables> {
+    let grammar = Grammar::read(alloc, text).ok()?;
+    Tables::build(alloc, &grammar).ok()
+}
+
+// So many workers, who draw chunks of so many pairs.
+fn crew_of<R: Threads + Sync>(
+    rt: &R,
+    alloc: Global,
+    workers: u32,
+    chunk: u32,
+) -> Option<Workers<'_, R, OpenGate>> {
+    Some(Workers {
+        runtime: rt,
+        alloc,
+        plan: Plan::new(workers, chunk)?,
+        gate: &OpenGate,
+    })
+}
+
+// Whether the word has that left parse, or else fails at that place.
+fn answers(crew: &impl Passes, tables: &Tables, word: &[u16], due: Result<&[u16], u64>) -> bool {
+    match (parse(crew, tables, word), due) {
+        (Ok(found), Ok(productions)) => found.as_slice() == productions,
+        (Err(ParseFault::Syntax { at }), Err(place)) => at == place,
+        _ => false,
+    }
+}
+
+// Words of the source language, with their left parses or the places where they fail.
+fn source_words<R: Abort>(rt: &R, crew: &impl Passes, tables: &Tables) {
+    let rows: [(&[u16], Result<&[u16], u64>); 6] = [
+        // fn main(): int { return 7; }
+        (
+            &[1, 2, 3, 4, 5, 8, 10, 17, 25, 13, 11],
+            Ok(&[
+                1, 3, 5, 9, 11, 12, 18, 21, 24, 27, 30, 33, 37, 42, 44, 39, 36, 32, 29, 26, 23, 13,
+                2,
+            ]),
+        ),
+        // fn main(): int { }
+        (&[1, 2, 3, 4, 5, 8, 10, 11], Ok(&[1, 3, 5, 9, 11, 13, 2])),
+        (&[], Ok(&[2])),
+        // fn main(): int { return f(1); }
+        (&[1, 2, 3, 4, 5, 8, 10, 17, 2, 3, 25, 4, 13, 11], Err(9)),
+        // fn main(): int { return (1]; }
+        (&[1, 2, 3, 4, 5, 8, 10, 17, 3, 25, 29, 13, 11], Err(10)),
+        // fn main(): int { return 1;
+        (&[1, 2, 3, 4, 5, 8, 10, 17, 25, 13], Err(10)),
+    ];
+    for (word, due) in rows {
+        assert!(rt; answers(crew, tables, word, due));
+    }
+}
+
+#[test]
+fn source_words_of_every_plan(rt: HostRuntime) -> Result<(), Fail> {
+    let tables = tables_of(rt.alloc(), G1).ok_or("the source language has tables")?;
+    for workers in [1, 4, 64] {
+        for chunk in [1, 7, 65536] {
+            let crew = crew_of(&rt, rt.alloc(), workers, chunk).ok_or("in range")?;
+            source_words(&rt, &crew, &tables);
+        }
+    }
+    Ok(())
+}
+
+const PAIRS: &[u8] = b"S -> a S b\nS ->";
+
+// Words of small grammars.
+fn small_words<R: Abort>(rt: &R, alloc: Global, crew: &impl Passes) -> Result<(), Fail> {
+    let long: &[u8] = b"S -> A a\nA -> B B\nB -> C C\nC -> D D\nD ->";
+    let rows: [(&[u8], &[u16], Result<&[u16], u64>); 14] = [
+        (PAIRS, &[], Ok(&[2])),
+        (PAIRS, &[1, 1, 2, 2], Ok(&[1, 1, 2])),
+        (PAIRS, &[2], Err(0)),
+        (PAIRS, &[1], Err(1)),
+        (PAIRS, &[1, 1, 2], Err(3)),
+        // two errors, and tokens that the tables don't have
+        (PAIRS, &[1, 2, 1, 2, 2], Err(2)),
+        (PAIRS, &[1, 9, 2, 9], Err(1)),
+        (PAIRS, &[65535], Err(0)),
+        // entries that are long
+        (
+            long,
+            &[1],
+            Ok(&[1, 2, 3, 4, 5, 5, 4, 5, 5, 3, 4, 5, 5, 4, 5, 5]),
+        ),
+        (long, &[], Err(0)),
+        (long, &[1, 1], Err(1)),
+        // one sentence, without a token
+        (b"S ->", &[], Ok(&[1])),
+        (b"S ->", &[1], Err(1)),
+        (b"S -> a", &[1], Ok(&[1])),
+    ];
+    for (text, word, due) in rows {
+        let tables = tables_of(alloc, text).ok_or("the grammar has tables")?;
+        assert!(rt; answers(crew, &tables, word, due));
+    }
+    Ok(())
+}
+
+#[test]
+fn small_words_by_chunks_of_one_and_two(rt: HostRuntime) -> Result<(), Fail> {
+    for (workers, chunk) in [(4, 1), (4, 2), (1, 2)] {
+        let crew = crew_of(&rt, rt.alloc(), workers, chunk).ok_or("in range")?;
+        small_words(&rt, rt.alloc(), &crew)?;
+    }
+    Ok(())
+}
+
+// So many opening tokens, and then as many closing ones.
+fn nested(alloc: Global, depth: u32) -> Result<Vec<u16>, AllocError> {
+    let mut word = Vec::new(alloc);
+    for token in [1, 2] {
+        for _ in 0..depth {
+            word.push(token)?;
+        }
+    }
+    Ok(word)
+}
+
+#[test]
+fn deeply_nested(rt: HostRuntime) -> Result<(), Fail> {
+    let tables = tables_of(rt.alloc(), PAIRS).ok_or("the grammar has tables")?;
+    let crew = crew_of(&rt, rt.alloc(), 4, 1024).ok_or("in range")?;
+    let mut word = nested(rt.alloc(), 20_000)?;
+    let found = parse(&crew, &tables, &word).map_err(|_| "a left parse")?;
+    assert_eq!(rt; found.len(), 20_001);
+    assert!(rt; found.iter().take(20_000).all(|p| *p == 1));
+    assert!(rt; found.last() == Some(&2));
+    word.pop();
+    assert!(rt; answers(&crew, &tables, &word, Err(39_999)));
+    Ok(())
+}
+
+// The worker that draws chunk 0 of a pass waits until the other one has drawn in that pass too, for so many turns at most. What was
+// drawn in earlier passes doesn't count: a worker's passes are numbered by how often it has found no chunk left.
+#[derive(Drop)]
+struct Meeting {
+    ended: [AtomicU64; 2],
+    drawn: [AtomicU64; 2],
+    met: AtomicU64,
+    alone: AtomicU64,
+}
+
+const TURNS: u64 = 1 << 26;
+
+fn nobody_yet() -> Meeting {
+    Meeting {
+        ended: [AtomicU64::new(0), AtomicU64::new(0)],
+        drawn: [AtomicU64::new(0), AtomicU64::new(0)],
+        met: AtomicU64::new(0),
+        alone: AtomicU64::new(0),
+    }
+}
+
+impl Meeting {
+    // Waits until the worker has drawn in that pass, and counts whether it has.
+    fn wait(&self, worker: usize, pass: u64)
+        requires { worker < 2 }
+    {
+        for _ in 0..TURNS {
+            if self.drawn[worker].load(Ordering::SeqCst) >= pass {
+                self.met.fetch_add(1, Ordering::SeqCst);
+                return;
+            }
+        }
+        self.alone.fetch_add(1, Ordering::SeqCst);
+    }
+}
+
+impl Gate for Meeting {
+    fn after_claim(&self, worker: u32, chunk: Option<u64>) {
+        let (mine, other) = if worker == 0 { (0, 1) } else { (1, 0) };
+        let pass = self.ended[mine].load(Ordering::SeqCst).saturating_add(1);
+        self.drawn[mine].store(pass, Ordering::SeqCst);
+        match chunk {
+            Some(0) => self.wait(other, pass),
+            Some(_) => {}
+            None => self.ended[mine].store(pass, Ordering::SeqCst),
+        }
+    }
+}
+
+#[test]
+fn two_workers_meet_in_each_pass(rt: HostRuntime) -> Result<(), Fail> {
+    let tables = tables_of(rt.alloc(), G1).ok_or("the source language has tables")?;
+    let gate = nobody_yet();
+    let crew = Workers {
+        runtime: &rt,
+        alloc: rt.alloc(),
+        plan: Plan::new(2, 1).ok_or("in range")?,
+        gate: &gate,
+    };
+    // fn main(): int { return 7; }
+    let word = [1, 2, 3, 4, 5, 8, 10, 17, 25, 13, 11];
+    let found = parse(&crew, &tables, &word).map_err(|_| "a left parse")?;
+    assert_eq!(rt; found.len(), 23);
+    assert_eq!(rt; gate.alone.load(Ordering::SeqCst), 0);
+    assert_eq!(rt; gate.met.load(Ordering::SeqCst), 2);
+    Ok(())
+}

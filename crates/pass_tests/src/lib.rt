@@ -1,0 +1,19 @@
+//! Tests of the passes over arrays. They stand apart, so that no crate is proved a second time with its tests.
+#![tactic(auto)]
+
+#[cfg(test)]
+mod callers;
+#[cfg(test)]
+mod groups;
+#[cfg(test)]
+mod jumping;
+#[cfg(test)]
+mod keys;
+#[cfg(test)]
+mod minima;
+#[cfg(test)]
+mod nearest;
+#[cfg(test)]
+mod passes;
+#[cfg(test)]
+mod stretches;

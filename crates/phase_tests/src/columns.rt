@@ -1,0 +1,36 @@
+use ast_rows::{Names, Tokens, Types};
+use source_meaning::{Terminal, ValueType};
+use std::test::*;
+
+#[test]
+fn rows_of_tokens(rt: HostRuntime) -> Result<(), Fail> {
+    let alloc = rt.alloc();
+    let kinds = vec![in alloc; Terminal::Digits, Terminal::Cmp]?;
+    let tokens = Tokens::new(kinds, vec![in alloc; 0, 1]?, vec![in alloc; 1, 2]?);
+    assert_eq!(rt; tokens.len(), 2);
+    assert!(rt; !tokens.is_empty());
+    assert!(rt; tokens.kinds() == [Terminal::Digits, Terminal::Cmp].as_slice());
+    assert!(rt; tokens.starts() == [0, 1].as_slice());
+    assert!(rt; tokens.lengths() == [1, 2].as_slice());
+    Ok(())
+}
+
+#[test]
+fn names_of_rows(rt: HostRuntime) -> Result<(), Fail> {
+    let alloc = rt.alloc();
+    let names = Names::new(vec![in alloc; 4294967295, 0]?, vec![in alloc; 0, 7]?, 1);
+    assert!(rt; names.meant() == [4294967295, 0].as_slice());
+    assert!(rt; names.numbers() == [0, 7].as_slice());
+    assert_eq!(rt; names.main(), 1);
+    Ok(())
+}
+
+#[test]
+fn types_of_rows(rt: HostRuntime) -> Result<(), Fail> {
+    let alloc = rt.alloc();
+    let types = Types::new(vec![in alloc; Some(ValueType::Int), None]?);
+    assert_eq!(rt; types.len(), 2);
+    assert!(rt; !types.is_empty());
+    assert!(rt; types.as_slice() == [Some(ValueType::Int), None].as_slice());
+    Ok(())
+}

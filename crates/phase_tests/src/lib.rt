@@ -1,0 +1,17 @@
+//! Tests of the phases of the compiler: tokens, rows, names, types, frames and code of sources. They stand apart, so that no crate is proved a second time with its tests.
+#![tactic(auto)]
+
+#[cfg(test)]
+mod columns;
+#[cfg(test)]
+mod frames;
+#[cfg(test)]
+mod fronts;
+#[cfg(test)]
+mod names;
+#[cfg(test)]
+mod shapes;
+#[cfg(test)]
+mod types;
+#[cfg(test)]
+mod words;

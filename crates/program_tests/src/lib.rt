@@ -1,0 +1,9 @@
+//! Tests of the command line and of the whole program over memory. They stand apart, so that no crate is proved a second time with its tests.
+#![tactic(auto)]
+
+#[cfg(test)]
+mod calls;
+#[cfg(test)]
+mod overlap;
+#[cfg(test)]
+mod words;

@@ -1,4 +1,0 @@
-use Rattle.scan_lookback.proofs.board_tests.asks.Given as goal
-
-abbrev pub ghosts-before_one : goal.ghosts-before_one
-ghosts-before_one g a = record { name = a.blank.name; parts = a.blank.parts }

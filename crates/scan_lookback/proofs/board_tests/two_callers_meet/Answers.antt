@@ -1,5 +1,0 @@
-use Rattle.scan_lookback.proofs.Rows.{four_and_five}
-use Rattle.scan_lookback.proofs.board_tests.two_callers_meet.Goals as goal
-
-pub meets-requires-clause-names : goal.meets-requires-clause-names
-meets-requires-clause-names g c = λ κs. four_and_five

@@ -1,5 +1,0 @@
-use Rattle.scan_lookback.proofs.Rows.{four_fives}
-use Rattle.scan_lookback.proofs.board_tests.two_loads.Goals as goal
-
-pub looks_back-requires-clause-names : goal.looks_back-requires-clause-names
-looks_back-requires-clause-names g c = four_fives

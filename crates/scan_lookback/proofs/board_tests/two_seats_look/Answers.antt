@@ -1,5 +1,0 @@
-use Rattle.scan_lookback.proofs.Rows.{four_and_five}
-use Rattle.scan_lookback.proofs.board_tests.two_seats_look.Goals as goal
-
-pub looks-requires-clause-names : goal.looks-requires-clause-names
-looks-requires-clause-names g c = four_and_five
