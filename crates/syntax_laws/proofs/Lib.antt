@@ -1,0 +1,5 @@
+mod Costs
+mod Deciding
+mod Reduced
+mod Ending
+mod Existing
