@@ -1,9 +1,9 @@
 -- A word which, followed by the end mark, begins a sentence followed by the end mark, is that sentence.
-use Rattle.std.proofs.Common.{◌≡◌, ℕ, zero, suc, ◌+◌, ◌<◌, ◌≤◌, List, [], ◌∷◌, ◌++◌, length, Option, Some, None, option_map, option_and_then, refl, sym, ap, ◌∙◌, subst, arith}
+use Rattle.std.proofs.Common.{◌≡◌, ℕ, List, [], ◌∷◌, ◌++◌, Option, Some, None, option_map, refl, sym, subst, arith}
 use Rattle.std.specs.List.{AllByRecursion}
 use Rattle.grammar_file.specs.declared.symbols.Symbol.{Symbol}
 use Rattle.grammar_file.specs.declared.symbols.Symbol.TheVariants.{Terminal, Nonterminal}
-use Rattle.grammar_file.specs.Grammar.{Grammar, Production, production, end_mark, IsSymbol, IsWellFormed}
+use Rattle.grammar_file.specs.Grammar.{Grammar, end_mark, IsSymbol, IsWellFormed}
 use Rattle.grammar_file.specs.Derivation.{leftmost_step, derived, Derives, word_form, IsSentence}
 use Rattle.grammar_file.specs.SyntaxPlace.{IsViable, ended}
 use Rattle.grammar_file.proofs.Derivations.{then_some}

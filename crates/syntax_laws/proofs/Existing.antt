@@ -1,5 +1,5 @@
 -- A word is a sentence or has a syntax place, and a source has a verdict.
-use Rattle.std.proofs.Common.{◌≡◌, ℕ, zero, suc, ◌+◌, ◌<◌, ◌≤◌, ◌⊎◌, inl, inr, List, [], ◌∷◌, ◌++◌, length, take, drop, map, Option, Some, None, refl, sym, ap, ◌∙◌, subst, arith, length-append, lt_of_not-le}
+use Rattle.std.proofs.Common.{◌≡◌, ℕ, zero, suc, ◌+◌, ◌<◌, ◌≤◌, ◌⊎◌, inl, inr, List, [], ◌∷◌, length, take, drop, map, Option, Some, None, refl, sym, subst, arith, length-append, lt_of_not-le}
 use mathlib.Core.Logic.{dite}
 use native.Mathlib.Decide.{dec_le, ℕ_discrete}
 use Rattle.std.proofs.lemmas.List.{take_all, take-append-drop}
@@ -11,8 +11,8 @@ use Rattle.grammar_file.specs.SyntaxPlace.{IsViable, IsSyntaxPlace, ended}
 use Rattle.grammar_file.proofs.Viable.{viable_of_drives, drives_of_viable, rights_derivable, start_productive}
 use Rattle.source_meaning.specs.Lexemes.{Token, tokens, lexical_fault, place_of}
 use Rattle.source_meaning.specs.Grammar.{grammar, terminal_number, number_of, Tree, Prog, leaves, left_parse, ast}
+use Rattle.llp_tables.specs.Tables.{IsNotLeftRecursive}
 use Rattle.verdict.specs.Verdict.{Verdict, Diagnosed, Limited, IsVerdict, too_large, lexical, syntactic, parsed, judged, word, most_source}
-use Rattle.syntax_laws.specs.Falling.{Costs, Falls}
 use Rattle.syntax_laws.proofs.Deciding.{Decided, Driven, drives}
 use Rattle.syntax_laws.proofs.Ending.{sentence_of_viable}
 
@@ -41,13 +41,18 @@ module _ (g : Grammar) where
       let not_behind : ¬ (j < i) = λ h. q.ends_there (p.goes_on_before j h) in
       omega arith
 
-module _ (g : Grammar) (c : Costs) (all : Falls c g) (wf : IsWellFormed g) (reduced : IsReduced g) where
-  by_drive : (x : List ℕ) → Decided (Driven g c all x (first_stack g)) → Decided (IsViable g x)
+  -- where no sentence is
+  pub placed : (w : List ℕ) → IsSentence g w ⊎ ((i : ℕ) × IsSyntaxPlace g w i) → ¬ IsSentence g w → (i : ℕ) × IsSyntaxPlace g w i
+  placed w (inl s) never = absurd (never s)
+  placed w (inr t) never = t
+
+module _ (g : Grammar) (wf : IsWellFormed g) (reduced : IsReduced g) (straight : IsNotLeftRecursive g) where
+  by_drive : (x : List ℕ) → Decided (Driven g wf straight x (first_stack g)) → Decided (IsViable g x)
   by_drive x (inl t) = inl (viable_of_drives g (rights_derivable g wf reduced.0) (start_productive g wf reduced.0) x t.0 t.1 t.2)
   by_drive x (inr never) = inr (λ h. never (drives_of_viable g x h))
 
   viable : (x : List ℕ) → Decided (IsViable g x)
-  viable x = by_drive x (drives g c all x (first_stack g))
+  viable x = by_drive x (drives g wf straight x (first_stack g))
 
   abbrev Front : List ℕ → ℕ → Type 0
   Front w k = IsViable g (take (k + 1) (ended g w))
@@ -63,10 +68,6 @@ module _ (g : Grammar) (c : Costs) (all : Falls c g) (wf : IsWellFormed g) (redu
 
   pub decided : (w : List ℕ) → IsSentence g w ⊎ ((i : ℕ) × IsSyntaxPlace g w i)
   decided w = by_least w (least (Front w) (λ k. viable (take (k + 1) (ended g w))) (length w + 1))
-
-  pub placed : (w : List ℕ) → IsSentence g w ⊎ ((i : ℕ) × IsSyntaxPlace g w i) → ¬ IsSentence g w → (i : ℕ) × IsSyntaxPlace g w i
-  placed w (inl s) never = absurd (never s)
-  placed w (inr t) never = t
 
 -- a source has a verdict, where each word is decided and each left parse is a tree's
 module _ (decide : (w : List ℕ) → IsSentence grammar w ⊎ ((i : ℕ) × IsSyntaxPlace grammar w i))

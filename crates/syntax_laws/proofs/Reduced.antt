@@ -1,9 +1,9 @@
 -- Each nonterminal of the source language's grammar derives a word, and is reached from the start.
-use Rattle.std.proofs.Common.{◌≡◌, ℕ, zero, suc, ◌<◌, List, [], ◌∷◌, refl, sym, subst, arith}
+use Rattle.std.proofs.Common.{ℕ, zero, suc, ◌<◌, [], ◌∷◌, refl, sym, subst, arith}
 use mathlib.Core.Logic.{dite}
 use native.Mathlib.Decide.{ℕ_discrete}
 use Rattle.grammar_file.specs.declared.symbols.Symbol.TheVariants.{Terminal, Nonterminal}
-use Rattle.grammar_file.specs.Spelling.{IsProductive, IsReachable, start_is, right_is, AllNonterminals, IsReduced}
+use Rattle.grammar_file.specs.Spelling.{IsProductive, IsReachable, start_is, right_is, IsReduced}
 use Rattle.source_meaning.specs.Grammar.{grammar}
 
 -- P of each number below n
