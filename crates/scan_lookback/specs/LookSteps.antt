@@ -1,5 +1,5 @@
 -- What a step on a status board tells the seat that takes it.
-use Rattle.std.specs.Prelude.{◌≡◌, ℕ, All, List}
+use Rattle.std.specs.Prelude.{◌≡◌, ℕ, All, List, [], ◌∷◌, ◌++◌}
 use Rattle.atomic_table.specs.Table.{Me, Step}
 use Rattle.chunk_seats.specs.Tallies.{times}
 use Rattle.scan_lookback.specs.declared.views.LookView.{LookView}
@@ -21,6 +21,14 @@ Seals st m r m' = (m'.1 ≡ m.1) × (m'.0 ≡ sealing m.0 st.word)
 -- a load of 0 comes only for a chunk that the seat has not shown, and of which it has loaded nothing else
 abbrev pub FoundNothing : LookView → ℕ → Type 0
 FoundNothing v j = (times j v.shown ≡ 0) × All (λ p. p.0 ≡ j → p.1 ≡ 0) v.looked
+
+-- the seat's last load was of the chunk j, and this was the word
+abbrev pub LastLoaded : LookView → ℕ → ℕ → Type 0
+LastLoaded v j word = (earlier : List (ℕ × ℕ)) × (v.looked ≡ earlier ++ (j, word) ∷ [])
+
+-- a seat's last load was of the chunk j, and the word was 0
+abbrev pub IsLookedAt : ℕ → Type 0
+IsLookedAt j = (v : LookView) × LastLoaded v j 0
 
 -- the load is noted, and the word is one that the chunk may have
 abbrev pub Finds : List ℕ → List ℕ → Step (Unit {0}) → Looker → ℕ → Looker → Type 0

@@ -9,8 +9,9 @@ ghost use Rattle.scan_lookback.specs.Held.{held};
 ghost use Rattle.scan_lookback.specs.Found.{Found, KnownAt, IsSum};
 
 use crate::board::{ScanBoard, Seat};
-use crate::look::{Known, Look, Unseen};
+use crate::look::{Known, Look};
 use crate::steps::Steps;
+use crate::unseen::Unseen;
 use crate::views::Chunks;
 use std::sync::ledger::{Blank, Ledger};
 use word_monoid::WordMonoid;

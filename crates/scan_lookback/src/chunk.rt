@@ -9,8 +9,8 @@ ghost use Rattle.scan_lookback.specs.LookBacks.{IsLookBack};
 ghost use Rattle.scan_lookback.specs.Held.{held};
 
 use crate::board::{ScanBoard, Seat};
-use crate::look::Unseen;
 use crate::span::{fold_slice, run_slice};
+use crate::unseen::Unseen;
 use crate::views::Chunks;
 use std::alloc::{AllocError, Global};
 use std::marker::Brand;

@@ -1,30 +1,16 @@
-//! Looks at status words. Nothing else makes an `Unseen`.
+//! Looks at status words.
 ghost use Rattle.std.specs.Prelude.{◌≡◌, ℕ, ◌<◌, length};
 ghost use Rattle.scan_lookback.specs.Views.{looking};
 ghost use Rattle.scan_lookback.specs.Posting.{Status};
-ghost use Rattle.scan_lookback.specs.LookSteps.{FoundNothing};
+ghost use Rattle.scan_lookback.specs.LookSteps.{LastLoaded, FoundNothing};
 ghost use Rattle.scan_lookback.specs.Named.{Names};
 ghost use Rattle.scan_lookback.specs.Held.{held};
 ghost use Rattle.scan_lookback.specs.Found.{Found};
 
 use crate::board::{ScanBoard, Seat};
+use crate::unseen::Unseen;
 use crate::views::Chunks;
 use word_monoid::WordMonoid;
-
-/// A chunk of which a look found nothing. Only a look makes it, and it can't be copied: who folds a chunk has looked at it.
-#[derive(Drop)]
-pub struct Unseen {
-    chunk: u64,
-}
-
-impl Unseen {
-    /// The chunk's number.
-    pub fn chunk(&self) -> u64
-        ensures { result ≡ self.now.chunk }
-    {
-        self.chunk
-    }
-}
 
 /// What a look finds.
 #[derive(Drop)]
@@ -44,15 +30,21 @@ pub(crate) enum Known<T> {
     Whole(T),
 }
 
-// What the word of a chunk says.
-fn read<M: WordMonoid, N: Chunks<M::Item>>(monoid: &M, j: u64, word: u64) -> Look<M::Item>
+// What the word of a chunk says, which the seat has just loaded.
+fn read<M: WordMonoid, N: Chunks<M::Item>>(
+    monoid: &M,
+    seat: &Seat,
+    j: u64,
+    word: u64,
+) -> Look<M::Item>
     requires names { Names (M.ops monoid.now) N.sums N.sum_codes N.prefix_codes }
     requires chunk { j < length N.sums }
     requires status { Status N.sum_codes N.prefix_codes j word }
+    requires loaded { LastLoaded seat.now.view j word }
     ensures { Found (M.ops monoid.now) N.sums j word result }
 {
     match word % 4 {
-        0 => Look::Nothing(Unseen { chunk: j }),
+        0 => Look::Nothing(Unseen::of(seat, j)),
         1 => Look::Sum(monoid.of_word(word / 4)),
         _ => Look::Prefix(monoid.of_word(word / 4)),
     }
@@ -67,6 +59,6 @@ impl<'a, M: WordMonoid, N: Chunks<M::Item>> ScanBoard<'a, M, N> {
         ensures { (word : ℕ) × (seat.new ≡ held seat.old.board (looking seat.old.view j word)) × Found (M.ops self.now.monoid) N.sums j word result × (word ≡ 0 → FoundNothing seat.old.view j) }
     {
         let word = self.load_word(seat, j);
-        read::<M, N>(self.monoid(), j, word)
+        read::<M, N>(self.monoid(), seat, j, word)
     }
 }

@@ -1,0 +1,4 @@
+mod Lists
+mod Claiming
+mod Looking
+mod Running

@@ -1,0 +1,4 @@
+pub mod Parts
+pub mod Running
+pub mod Events
+pub mod Runs
