@@ -2,3 +2,4 @@ mod Lists
 mod Claiming
 mod Looking
 mod Running
+mod Tables

@@ -1,5 +1,5 @@
 -- Whole runs of a board: the steps of all its seats, in the order in which they fall.
-use Rattle.std.specs.Prelude.{◌≡◌, ℕ, List, [], ◌∷◌, length, replicate, Option, true}
+use Rattle.std.specs.Prelude.{◌≡◌, ℕ, ◌<◌, List, [], ◌∷◌, length, replicate, Option, true}
 use Rattle.atomic_table.specs.Table.{opening}
 use Rattle.word_monoid.specs.Monoid.{Ops}
 use Rattle.chunk_seats.specs.Claims.{fresh}
@@ -7,6 +7,7 @@ use Rattle.scan_lookback.specs.declared.look.Look.{Look}
 use Rattle.scan_lookback.specs.Views.{blank}
 use Rattle.board_core.specs.declared.steps.Event.{Event}
 use Rattle.board_core.specs.State.{State}
+use Rattle.board_core.specs.Sound.{IsSound, ClaimsAll}
 use Rattle.board_core.specs.Schedules.{start, is_lawful, play, after}
 use Rattle.board_steps.specs.Parts.{ClaimTable, StatusTable, at_least_one, claim_part, IsStatusPart}
 use Rattle.board_steps.specs.Running.{RunsClaim, RunsDone, RunsClaimSplit, RunsClaimJoin, RunsShow, RunsSeal, RunsLook, RunsStatusSplit, RunsStatusJoin}
@@ -45,3 +46,22 @@ module _ {I : Type 0} (ops : Ops I) (sums : List I) where
     pub events : List Event
     pub lawful : AreLawful (start ops sums seats) events
     pub is : IsStatusPart ops sums (after ops sums seats events) s
+
+module _ {I : Type 0} (ops : Ops I) where
+  -- whatever has run, the claim board is the claim part of the state after a schedule of lawful events, which is sound
+  abbrev pub ClaimRunsAreSchedules : Type 0
+  ClaimRunsAreSchedules = (sums : List I) (seats : ℕ) (s : ClaimTable) → ClaimRun (length sums) seats s → IsClaimSchedule ops sums seats s
+
+  abbrev pub ClaimRunsAreSound : Type 0
+  ClaimRunsAreSound =
+      (sums : List I) (seats : ℕ) (s : ClaimTable) → 0 < seats → ClaimRun (length sums) seats s
+      → (c : State I) × IsSound ops sums seats c × ClaimsAll (length sums) seats c × (s ≡ claim_part c)
+
+  -- the same of the status board
+  abbrev pub StatusRunsAreSchedules : Type 0
+  StatusRunsAreSchedules = (sums : List I) (seats : ℕ) (s : StatusTable) → StatusRun ops sums seats s → IsStatusSchedule ops sums seats s
+
+  abbrev pub StatusRunsAreSound : Type 0
+  StatusRunsAreSound =
+      (sums : List I) (seats : ℕ) (s : StatusTable) → 0 < seats → StatusRun ops sums seats s
+      → (c : State I) × IsSound ops sums seats c × IsStatusPart ops sums c s

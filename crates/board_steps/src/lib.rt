@@ -7,4 +7,5 @@ mod laws;
 
 pub use laws::{
     claim_board_runs, claim_board_steps, parts_apart, status_board_runs, status_board_steps,
+    table_steps, worked_run,
 };

@@ -1,5 +1,5 @@
 use std::test::*;
-use word_monoid::{Count, Greatest, Signed};
+use word_monoid::{Count, Greatest, Signed, WordMonoid};
 
 #[test]
 fn sums_wrap_round(rt: HostRuntime) {

@@ -3,7 +3,7 @@ ghost use Rattle.std.specs.Prelude.{◌≤◌};
 use chunk_seats::OpenGate;
 use elf_file::write;
 use grammar_file::G1;
-use pareas_core::{MemoryIn, MemoryOut, Status, pareas};
+use pareas_core::{ByteIn, MemoryIn, MemoryOut, Status, pareas};
 use std::alloc::{AllocError, Global};
 use std::process::Abort;
 use std::test::Fail;
