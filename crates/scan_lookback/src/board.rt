@@ -4,7 +4,7 @@ ghost use Rattle.chunk_seats.specs.Tallies.{times};
 ghost use Rattle.word_monoid.specs.Folds.{prefix_of};
 ghost use Rattle.scan_lookback.specs.Views.{blank, showing, sealing, looking, leaving, uniting};
 ghost use Rattle.scan_lookback.specs.Posting.{Says, Status};
-ghost use Rattle.scan_lookback.specs.LookSteps.{FoundNothing};
+ghost use Rattle.scan_lookback.specs.LookSteps.{FoundNothing, LastLoaded};
 ghost use Rattle.scan_lookback.specs.Named.{Names};
 ghost use Rattle.scan_lookback.specs.Held.{held};
 ghost use Rattle.scan_lookback.specs.Found.{IsSum, IsPrefix};
@@ -206,6 +206,7 @@ impl<'a, M: WordMonoid, N: Chunks<M::Item>> ScanBoard<'a, M, N> {
         requires board { seat.old.board ≡ self.now.board }
         requires chunk { j < self.now.chunks }
         ensures noted { seat.new ≡ held seat.old.board (looking seat.old.view j result) }
+        ensures loaded { LastLoaded seat.new.view j result }
         ensures status { Status N.sum_codes N.prefix_codes j result }
         ensures never { result ≡ 0 → FoundNothing seat.old.view j }
     {
