@@ -2,7 +2,6 @@
 //! and the words.
 #![tactic(auto)]
 
-mod children;
 mod columns;
 mod fault;
 mod functions;

@@ -1,5 +1,5 @@
 -- What the passes over a program's rows give are its types and its first fault of typing.
-use Rattle.std.proofs.Common.{◌≡◌, ◌⊎◌, ℕ, ◌^◌, ◌<◌, ◌≤◌, min, fold, All, List, [], length, map, get_or, Option, Some, None, sym, ap, subst, ◌∙◌}
+use Rattle.std.proofs.Common.{◌≡◌, ◌⊎◌, ℕ, ◌^◌, ◌<◌, ◌≤◌, min, fold, List, [], length, map, get_or, Option, Some, None, sym, ap, subst, ◌∙◌}
 use Rattle.source_meaning.specs.declared.kinds.ValueType.{ValueType}
 use Rattle.source_meaning.specs.declared.kinds.Kind.{Kind}
 use Rattle.source_meaning.specs.Ast.{Program}
