@@ -13,35 +13,6 @@ use std::test::*;
 
 const INT: ValueType = ValueType::Int;
 
-// Whether no parent stands before its row.
-fn goes_up(parents: &[u32]) -> bool
-    ensures { result ≡ true → (i : ℕ) → i < length parents.now → i ≤ slice_index_or parents.now i 0 }
-{
-    for k in 0..parents.len() {
-        if (parents[k] as usize) < k {
-            return false;
-        }
-    }
-    true
-}
-
-// These columns as rows, if they can be.
-fn rows_of(
-    kinds: Vec<Kind>,
-    parents: Vec<u32>,
-    tokens: Vec<u32>,
-    places: Vec<u32>,
-) -> Option<Rows> {
-    let rows = kinds.len();
-    if parents.len() != rows || tokens.len() != rows || places.len() != rows {
-        return None;
-    }
-    if !goes_up(parents.as_slice()) {
-        return None;
-    }
-    Some(Rows::new(kinds, parents, tokens, places))
-}
-
 // fn main(): int { return 8-3-2; }
 fn differences(alloc: Global) -> Result<Rows, Fail> {
     let kinds = Vec::from_array(
@@ -61,7 +32,7 @@ fn differences(alloc: Global) -> Result<Rows, Fail> {
     let parents = Vec::from_array(alloc, [2, 2, 4, 4, 5, 6, 7, 8, 8])?;
     let tokens = Vec::from_array(alloc, [8, 10, 9, 12, 11, 7, 6, 1, u32::MAX])?;
     let places = Vec::from_array(alloc, [0, 1, 0, 1, 0, 0, 0, 0, 0])?;
-    Ok(rows_of(kinds, parents, tokens, places).ok_or("rows that go up")?)
+    Ok(Rows::from_columns(alloc, kinds, parents, tokens, places)?.ok_or("rows that go up")?)
 }
 
 // fn f(var a: int): int { return a; }
@@ -165,7 +136,7 @@ fn nested_sums(alloc: Global) -> Result<Rows, Fail> {
             1, 1, 1, 0, 0, 0, 1, 0,
         ],
     )?;
-    Ok(rows_of(kinds, parents, tokens, places).ok_or("rows that go up")?)
+    Ok(Rows::from_columns(alloc, kinds, parents, tokens, places)?.ok_or("rows that go up")?)
 }
 
 // The depths of a program's rows, and the frames of its functions.
@@ -270,7 +241,7 @@ fn declarations(alloc: Global, count: u32) -> Result<Rows, Fail>
         tokens.push(token)?;
         places.push(0)?;
     }
-    Ok(rows_of(kinds, parents, tokens, places).ok_or("rows that go up")?)
+    Ok(Rows::from_columns(alloc, kinds, parents, tokens, places)?.ok_or("rows that go up")?)
 }
 
 #[test]

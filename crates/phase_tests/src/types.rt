@@ -20,35 +20,6 @@ const BOOL: ValueType = ValueType::Bool;
 // A row: its kind, its parent, its own token, how many siblings stand before it, and the row that it means.
 type Node = (Kind, u32, u32, u32, u32);
 
-// Whether no parent stands before its row.
-fn goes_up(parents: &[u32]) -> bool
-    ensures { result ≡ true → (i : ℕ) → i < length parents.now → i ≤ slice_index_or parents.now i 0 }
-{
-    for k in 0..parents.len() {
-        if (parents[k] as usize) < k {
-            return false;
-        }
-    }
-    true
-}
-
-// These columns as rows, if they can be.
-fn rows_from(
-    kinds: Vec<Kind>,
-    parents: Vec<u32>,
-    tokens: Vec<u32>,
-    places: Vec<u32>,
-) -> Option<Rows> {
-    let rows = kinds.len();
-    if parents.len() != rows || tokens.len() != rows || places.len() != rows {
-        return None;
-    }
-    if !goes_up(parents.as_slice()) {
-        return None;
-    }
-    Some(Rows::new(kinds, parents, tokens, places))
-}
-
 fn rows_of(alloc: Global, nodes: &[Node]) -> Result<Rows, Fail> {
     let mut kinds = Vec::new(alloc);
     let mut parents = Vec::new(alloc);
@@ -60,7 +31,7 @@ fn rows_of(alloc: Global, nodes: &[Node]) -> Result<Rows, Fail> {
         tokens.push(*token)?;
         places.push(*place)?;
     }
-    Ok(rows_from(kinds, parents, tokens, places).ok_or("rows that go up")?)
+    Ok(Rows::from_columns(alloc, kinds, parents, tokens, places)?.ok_or("rows that go up")?)
 }
 
 // The names of rows without variables' numbers.

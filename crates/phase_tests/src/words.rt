@@ -38,20 +38,9 @@ struct Code<'a> {
     words: &'a [u32],
 }
 
-// Whether no parent stands before its row.
-fn goes_up(parents: &[u32]) -> bool
-    ensures { result ≡ true → (i : ℕ) → i < length parents.now → i ≤ slice_index_or parents.now i 0 }
-{
-    for k in 0..parents.len() {
-        if (parents[k] as usize) < k {
-            return false;
-        }
-    }
-    true
-}
-
 // These columns as rows.
 fn rows_of(
+    alloc: Global,
     kinds: Vec<Kind>,
     parents: Vec<u32>,
     tokens: Vec<u32>,
@@ -59,14 +48,7 @@ fn rows_of(
 ) -> Result<Rows, Fail>
     ensures { IfOk result (λ r. r ≡ rows_from 0 kinds.items parents.items tokens.items places.items) }
 {
-    let rows = kinds.len();
-    if parents.len() != rows || tokens.len() != rows || places.len() != rows {
-        return Err("columns of one length".into());
-    }
-    if !goes_up(parents.as_slice()) {
-        return Err("rows that go up".into());
-    }
-    Ok(Rows::new(kinds, parents, tokens, places))
+    Ok(Rows::from_columns(alloc, kinds, parents, tokens, places)?.ok_or("rows that go up")?)
 }
 
 // fn main(): int { return 7; }
@@ -96,7 +78,7 @@ fn seven(alloc: Global) -> Result<Found, Fail>
         bytes: 16,
     };
     let frames = Vec::from_array(alloc, [main])?;
-    let rows = rows_of(kinds, parents, tokens, places)?;
+    let rows = rows_of(alloc, kinds, parents, tokens, places)?;
     Ok(Found {
         rows,
         names: Names::new(meant, numbers, 3),
@@ -205,7 +187,7 @@ fn counting(alloc: Global) -> Result<Found, Fail>
         bytes: 16,
     };
     let frames = Vec::from_array(alloc, [frame, main])?;
-    let rows = rows_of(kinds, parents, tokens, places)?;
+    let rows = rows_of(alloc, kinds, parents, tokens, places)?;
     Ok(Found {
         rows,
         names: Names::new(meant, numbers, 28),

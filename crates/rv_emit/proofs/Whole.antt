@@ -5,36 +5,33 @@ use Rattle.std.specs.List.{range_with_len}
 use Rattle.std.proofs.lemmas.Bool.{cases_lt, eqb-true, and_parts, ltb-true}
 use Rattle.std.proofs.lemmas.List.{get_or-map, get_or_past, length-map}
 use Rattle.std.proofs.lemmas.List.FromFn.{get_or-map-range_with_len}
-use Rattle.scatter_rows.specs.Scattered.{AreDistinct}
 use Rattle.source_meaning.specs.declared.kinds.Kind.{Kind}
-use Rattle.source_meaning.specs.declared.kinds.Kind.TheVariants.{Program as ProgramKind}
+use Rattle.source_meaning.specs.declared.kinds.Kind.TheVariants.{Assign, Program as ProgramKind}
 use Rattle.source_meaning.specs.Ast.{Function, Program}
 use Rattle.source_meaning.specs.Rows.{Row, post}
 use Rattle.source_meaning.specs.Frames.{Frame as FrameRow, frame, frame_for}
 use Rattle.ast_rows.specs.NameRows.{NameRows, row_word, row_of_word}
-use Rattle.ast_rows.specs.NodeRows.{parent_numbers}
-use Rattle.row_rules.specs.Visible.{row_at, no_row}
-use Rattle.row_rules.specs.Steps.{kind_at}
-use Rattle.row_rules.proofs.Siblings.{one_of_place}
+use Rattle.ast_rows.specs.NodeRows.{low_at, lows_of, parent_numbers}
+use Rattle.row_rules.specs.Alignment.{IsNamedProgram}
+use Rattle.row_rules.specs.Visible.{row_at, no_row, site_at}
+use Rattle.row_rules.specs.Steps.{is_assign, kind_at}
 use Rattle.row_rules.proofs.Shaped.{program_named}
-use Rattle.typing_rules.proofs.Elders.{up_pos, not_last}
-use Rattle.code_rules.specs.ByNames.{number_meant, row_by}
-use Rattle.code_rules.specs.RowTables.{function_number, frame_in}
+use Rattle.typing_rules.specs.Columns.{first_of, IsFirstChild}
+use Rattle.typing_rules.proofs.Firsts.{first_found, first_is}
+use Rattle.typing_rules.proofs.Lefts.{assignment_begins}
+use Rattle.code_rules.specs.ByNames.{number_by as number_of_row, number_meant, row_by}
+use Rattle.code_rules.specs.RowTables.{function_number, frame_in, NumberOf}
+use Rattle.code_rules.proofs.Meanings.{numbers_meant}
 use Rattle.code_rules.proofs.ByRows.{sites_many}
 use Rattle.code_rules.proofs.Whole.{program_whole}
 use Rattle.rv_select.specs.declared.known.Frame.{Frame}
 use Rattle.rv_select.specs.Knowns.{frame_of}
 use Rattle.rv_select.specs.Accepted.{IsAccepted}
-use Rattle.rv_select.specs.Firsts.{is_first, firsts, ArePut}
 use Rattle.rv_select.specs.Functions.{function_numbers, function_rows}
-use Rattle.rv_select.specs.Referred.{row_in}
-use Rattle.rv_select.proofs.Kept.{passing, same_place}
-use Rattle.rv_select.proofs.Found.{numbers_found}
 use Rattle.rv_select.proofs.Functions.{numbers_are, ends_are, ends_many}
 use Rattle.rv_select.proofs.OfProgram.{get_map, get_parent, number_le, frame_get}
 use Rattle.rv_emit.specs.Counted.{narrowed}
 use Rattle.rv_emit.specs.Meanings.{meant_in, number_at}
-use Rattle.rv_emit.specs.Put.{first_places}
 use Rattle.rv_emit.specs.Compilable.{IsCompilable}
 use Rattle.rv_emit.proofs.Placed.{all_by, narrow_get}
 
@@ -42,57 +39,22 @@ pub parents_many : (rs : List Row) (i : ℕ) → length (parent_numbers i rs) �
 parents_many [] i = refl
 parents_many (r ∷ rs) i = ap suc (parents_many rs (i + 1))
 
--- ---- first children stand at different parents
+-- ---- what assignments mean
 
-module _ (parents places : List ℕ) (p : Program) (parents_are : parents ≡ parent_numbers 0 (post p)) (places_are : places ≡ map (λ r. r.place) (post p)) where
-  many : length parents ≡ length (post p)
-  many = ap length parents_are ∙ parents_many (post p) 0
+-- only of an assignment the first child is asked
+same_meant : (meant : ℕ → Option ℕ) (number : ℕ → ℕ) (f g : ℕ → ℕ) (k : ℕ) (kind : Kind) → (is_assign kind ≡ true → f k ≡ g k) → number_meant meant number f kind k ≡ number_meant meant number g kind k
+same_meant meant number f g k Assign h = ap (λ (j : ℕ). number_of_row number (meant j)) (h refl)
+same_meant meant number f g k kind h = refl
 
-  long : length (first_places parents places) ≡ length (firsts parents places)
-  long = length-map (firsts parents places) (λ (k : ℕ). get_or parents k 0)
-
-  record First (i : ℕ) : Type 0 where
-    row : ℕ
-    is : get_or (firsts parents places) i 0 ≡ row
-    inside : row + 1 < length (post p)
-    place : (row_at p row).place ≡ 0
-    at : get_or (first_places parents places) i 0 ≡ row + (row_at p row).up
-
-  first_of : (i : ℕ) → i < length (firsts parents places) → First i
-  first_of i lt =
-      let h = passing (is_first parents places) 0 (length parents) i lt in
-      let k : ℕ = get_or (firsts parents places) i 0 in
-      let t = and_parts (nat_lt k (get_or parents k 0)) (get_or places k 0 == 0) h.2 in
-      let high = h.1 in
-      let n = many in
-      let l : k < length (post p) = omega arith in
-      let z : 0 + k + (row_at p k).up ≡ k + (row_at p k).up = omega arith in
-      let parent : get_or parents k 0 ≡ k + (row_at p k).up = ap (λ (m : List ℕ). get_or m k 0) parents_are ∙ get_parent (post p) 0 k l ∙ z in
-      let below : k < get_or parents k 0 = ltb-true k (get_or parents k 0) t.0 in
-      record {
-        row = k;
-        is = refl;
-        inside = not_last p k l (omega arith);
-        place = sym (get_map (λ (r : Row). r.place) (post p) k no_row) ∙ ap (λ (m : List ℕ). get_or m k 0) (sym places_are) ∙ eqb-true (get_or places k 0) 0 t.1;
-        at = get_or-map (λ (m : ℕ). get_or parents m 0) (firsts parents places) i 0 0 lt ∙ parent;
-      }
-
-  pub firsts_apart : AreDistinct (first_places parents places)
-  firsts_apart i j li lj e =
-      let l = long in
-      let x = first_of i (omega arith) in
-      let y = first_of j (omega arith) in
-      let same : x.row ≡ y.row = one_of_place p x.row y.row x.inside y.inside (sym x.at ∙ e ∙ y.at) (x.place ∙ sym y.place) in
-      same_place (is_first parents places) 0 (length parents) i j (omega arith) (omega arith) (x.is ∙ same ∙ sym y.is)
-
-  pub firsts_inside : All (λ q. q < length parents) (first_places parents places)
-  firsts_inside = all_by (λ q. q < length parents) (first_places parents places) (λ i li.
-      let l = long in
-      let n = many in
-      let x = first_of i (omega arith) in
-      let u = (up_pos p x.row x.inside).1 in
-      let at = x.at in
-      omega arith)
+low_first : (p : Program) → IsNamedProgram p → (lows : List ℕ) → lows ≡ lows_of (parent_numbers 0 (post p)) → (k : ℕ) → k < length (post p) → is_assign (kind_at p k) ≡ true → get_or lows k 0 ≡ first_of p k
+low_first p ok lows e k lt h =
+    let many : length (parent_numbers 0 (post p)) ≡ length (post p) = parents_many (post p) 0 in
+    let b : IsFirstChild p k (low_at (parent_numbers 0 (post p)) k) = assignment_begins p k ok lt h in
+    let less = b.before in
+    let up = b.parent in
+    ap (λ (l : List ℕ). get_or l k 0) e
+    ∙ get_or-map-range_with_len (low_at (parent_numbers 0 (post p))) 0 (length (parent_numbers 0 (post p))) k k 0 (omega arith) (omega arith)
+    ∙ sym (first_is p k (low_at (parent_numbers 0 (post p)) k) (omega arith) (record { first = b.first; below = omega arith; parent = b.parent }))
 
 -- ---- what words mean
 
@@ -109,7 +71,7 @@ no_some j e = cc
 
 -- ---- the columns
 
-pub record Made (rows : List Row) (names : NameRows) (ds : List ℕ) (fs : List FrameRow) (kinds : List Kind) (parents places functions numbers ends : List ℕ) (frames : List Frame) (meant words declared first : List ℕ) : Type 0 where
+pub record Made (rows : List Row) (names : NameRows) (ds : List ℕ) (fs : List FrameRow) (kinds : List Kind) (parents places functions numbers ends : List ℕ) (frames : List Frame) (meant words declared lows : List ℕ) : Type 0 where
   pub few : length rows ≤ 33554432
   pub kinds_are : kinds ≡ map (λ r. r.kind) rows
   pub parents_are : parents ≡ parent_numbers 0 rows
@@ -117,14 +79,14 @@ pub record Made (rows : List Row) (names : NameRows) (ds : List ℕ) (fs : List 
   pub functions_are : functions ≡ narrowed (function_numbers kinds)
   pub ends_are : ends ≡ function_rows kinds
   pub frames_are : All (λ (f : FrameRow). f.bytes ≤ 4294967295) fs → map frame_of frames ≡ fs
-  pub first_is : ArePut parents places first
+  pub lows_are : lows ≡ lows_of (parent_numbers 0 rows)
   pub words_are : words ≡ map row_word names.meant
   pub declared_are : declared ≡ names.numbers
-  pub numbers_are : numbers ≡ map (λ k. number_at words declared first (get_or kinds k ProgramKind) k) (range_with_len 0 (length kinds))
+  pub numbers_are : numbers ≡ map (λ k. number_at words declared lows (get_or kinds k ProgramKind) k) (range_with_len 0 (length kinds))
   pub meant_are : meant ≡ map (λ w. row_by (row_of_word w)) words
 
-module _ (rows : List Row) (names : NameRows) (ds : List ℕ) (fs : List FrameRow) (kinds : List Kind) (parents places functions numbers ends : List ℕ) (frames : List Frame) (meant words declared first : List ℕ)
-    (m : Made rows names ds fs kinds parents places functions numbers ends frames meant words declared first) (p : Program) (good : IsCompilable p rows names ds fs) where
+module _ (rows : List Row) (names : NameRows) (ds : List ℕ) (fs : List FrameRow) (kinds : List Kind) (parents places functions numbers ends : List ℕ) (frames : List Frame) (meant words declared lows : List ℕ)
+    (m : Made rows names ds fs kinds parents places functions numbers ends frames meant words declared lows) (p : Program) (good : IsCompilable p rows names ds fs) where
   abbrev meant_by : ℕ → Option ℕ
   meant_by k = get_or names.meant k None
 
@@ -177,13 +139,14 @@ module _ (rows : List Row) (names : NameRows) (ds : List ℕ) (fs : List FrameRo
       ∙ ap row_of_word (get_map row_word names.meant k None)
       ∙ back (meant_by k) (meant_low k)
 
-  number_told : (k : ℕ) → k < length (post p) → get_or numbers k 0 ≡ number_meant meant_by number_by (row_in first) (kind_at p k) k
+  number_told : (k : ℕ) → k < length (post p) → get_or numbers k 0 ≡ number_meant meant_by number_by (first_of p) (kind_at p k) k
   number_told k lt =
       let n = ap (λ (l : List Kind). length l) kinds_there ∙ length-map (post p) (λ (r : Row). r.kind) in
       let kind : get_or kinds k ProgramKind ≡ kind_at p k = ap (λ (l : List Kind). get_or l k ProgramKind) kinds_there ∙ get_map (λ (r : Row). r.kind) (post p) k no_row in
       ap (λ (l : List ℕ). get_or l k 0) m.numbers_are
-      ∙ get_or-map-range_with_len (λ (k : ℕ). number_at words declared first (get_or kinds k ProgramKind) k) 0 (length kinds) k k 0 (omega arith) (omega arith)
-      ∙ (λ i. number_meant (λ n. word_at n i) (λ j. get_or (m.declared_are i) j 0) (row_in first) (kind i) k)
+      ∙ get_or-map-range_with_len (λ (k : ℕ). number_at words declared lows (get_or kinds k ProgramKind) k) 0 (length kinds) k k 0 (omega arith) (omega arith)
+      ∙ (λ i. number_meant (λ n. word_at n i) (λ j. get_or (m.declared_are i) j 0) (λ j. get_or lows j 0) (kind i) k)
+      ∙ same_meant meant_by number_by (λ j. get_or lows j 0) (first_of p) k (kind_at p k) (low_first p (program_named p good.shaped) lows (m.lows_are ∙ ap (λ (rs : List Row). lows_of (parent_numbers 0 rs)) good.rows_are) k lt)
 
   meant_told : (k : ℕ) → k < length (post p) → get_or meant k 0 ≡ row_by (meant_by k)
   meant_told k lt =
@@ -204,7 +167,8 @@ module _ (rows : List Row) (names : NameRows) (ds : List ℕ) (fs : List FrameRo
       functions_are = functions_there;
       ends_are = λ j lt. ap (λ (l : List ℕ). get_or l j 0) m.ends_are ∙ ends_are kinds p kinds_there j lt;
       frames_are = m.frames_are frames_low ∙ good.frames_are;
-      numbers_are = numbers_found parents places p parents_there places_there good.shaped meant_by number_by names.main good.named first m.first_is numbers number_told;
+      numbers_are = λ k lt. subst (λ (n : ℕ). NumberOf n (site_at p k).scope (site_at p k).depth (site_at p k).part) (sym (number_told k lt))
+          (numbers_meant p meant_by number_by names.main good.named (program_named p good.shaped) (program_whole p good.shaped) (first_of p) (first_found p) k lt);
       ends_many = ap (λ (l : List ℕ). length l) m.ends_are ∙ ends_many kinds p kinds_there;
       few = few_there;
     };

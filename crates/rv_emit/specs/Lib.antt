@@ -1,5 +1,4 @@
 pub mod Counted
-pub mod Put
 pub mod Meanings
 pub mod OfColumns
 pub mod Coded

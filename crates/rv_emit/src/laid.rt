@@ -4,10 +4,9 @@ ghost use Rattle.scatter_rows.specs.Scattered.{AreDistinct};
 ghost use Rattle.rv_select.specs.Layout.{is_kept as is_kept_child, kept_from};
 ghost use Rattle.rv_emit.specs.OfColumns.{rows_of, above_of, begin_step_of, begins_of, kept_of, kept_places_of, kept_values_of, AreChildren};
 
-use crate::children::parents_of;
 use crate::functions::narrow;
 use par_passes::{Lift, Passes};
-use rv_select::{Columns, begin_step, is_kept, kept_value};
+use rv_select::{Columns, begin_step, is_kept, kept_value, number};
 use std::alloc::AllocError;
 use word_monoid::Greatest;
 
@@ -58,6 +57,17 @@ fn kept_rows(crew: &impl Passes, columns: &Columns<'_>) -> Result<Vec<u32>, Allo
         ensures { result ≡ is_kept_child (above_of columns.entry.now k) (slice_index_or columns.entry.now.places.now k 0) }
     { is_kept(*columns, k) };
     crew.numbers_where(columns.kinds.len() as u32, &at)
+}
+
+// The parents of rows.
+fn parents_of(crew: &impl Passes, parents: &[u32], rows: &[u32]) -> Result<Vec<u64>, AllocError>
+    requires len { length rows.now < 2 ^ 62 }
+    ensures { IfOk result (λ v. v.items ≡ map (λ k. slice_index_or parents.now k 0) rows.now) }
+{
+    let parent = |k: u32| -> u64
+        ensures { result ≡ slice_index_or parents.entry.now k 0 }
+    { number(parents, k) as u64 };
+    crew.map(rows, &parent)
 }
 
 // As what rows are kept.

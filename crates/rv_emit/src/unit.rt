@@ -5,7 +5,6 @@ ghost use Rattle.rv_emit.specs.Coded.{AreCodeColumns};
 ghost use Rattle.rv_emit.specs.Compilable.{IsCompilable};
 ghost use Rattle.rv_emit.specs.OfColumns.{AreAccepted};
 
-use crate::children::first_children;
 use crate::columns::CodeColumns;
 use crate::{functions, meanings};
 use ast_rows::{Names, Rows};
@@ -35,9 +34,8 @@ pub fn code_columns<'a>(
     let owners = functions::numbers(crew, kinds)?;
     let ends = functions::ends(crew, kinds)?;
     let frames = functions::frames(crew, frames)?;
-    let first = first_children(crew, parents, places)?;
     let words = names.meant();
-    let numbers = meanings::numbers(crew, kinds, words, names.numbers(), &first)?;
+    let numbers = meanings::numbers(crew, kinds, words, names.numbers(), rows.lows())?;
     let meant = meanings::callees(crew, words)?;
     Ok(CodeColumns {
         kinds,

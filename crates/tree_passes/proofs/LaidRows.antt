@@ -1,5 +1,5 @@
 -- Parents and places of rows from their sizes, and the keys of their faults.
-use Rattle.std.proofs.Common.{◌≡◌, ℕ, zero, suc, ◌+◌, ◌-◌, ◌<◌, ◌≤◌, Bool, true, false, List, [], ◌∷◌, length, map, min, get_or, Option, Some, None, refl, sym, ap, ◌∙◌, subst, arith}
+use Rattle.std.proofs.Common.{◌≡◌, ℕ, zero, suc, ◌+◌, ◌-◌, ◌<◌, ◌≤◌, Bool, true, false, List, [], ◌∷◌, length, map, min, get_or, Option, Some, None, refl, sym, ap, ◌∙◌, arith}
 use Rattle.std.specs.Prelude.{if◌then◌else◌, nat_lt, nat_eq, ◌==◌}
 use Rattle.std.specs.List.{range_with_len}
 use Rattle.std.proofs.lemmas.Bool.Decides.{nat_tests}
@@ -8,11 +8,9 @@ use Rattle.source_meaning.specs.declared.kinds.Kind.{Kind}
 use Rattle.ast_rows.specs.NodeRows.{token_word, token_of}
 use Rattle.word_monoid.specs.Folds.{prefixes}
 use Rattle.word_monoid.specs.Instances.{count as adds}
-use Rattle.key_groups.specs.Grouped.{number_at, equal_before}
-use Rattle.key_groups.specs.Parents.{AreParents}
+use Rattle.key_groups.specs.Grouped.{equal_before}
 use Rattle.nearest_all.specs.Nearest.{nexts}
 use Rattle.near_levels.proofs.Answered.{parents_answered}
-use Rattle.near_levels.proofs.Spans.{spans_nest}
 use Rattle.row_laws.specs.Marks.{Mark}
 use Rattle.row_laws.specs.Faults.{number_or}
 use Rattle.row_laws.specs.Faulted.{faults_at, fault_keys, key_of}
@@ -26,7 +24,7 @@ use Rattle.tree_passes.specs.Reading.{low_of, number_in, parent_of, place_of}
 use Rattle.tree_passes.proofs.Ranges.{same_below, value_at, many_of}
 use Rattle.tree_passes.proofs.RowColumns.{parents_upward}
 use Rattle.tree_passes.proofs.RowFaults.{word_is}
-use Rattle.tree_passes.proofs.Siblings.{place_is}
+use Rattle.tree_passes.proofs.Ranked.{place_is}
 
 -- ---- where subtrees begin
 pub lows_are : (ms : List Mark) (sizes lows : List ℕ) → length ms ≤ 536870914 → sizes ≡ map (λ k. (mark_at ms k).size) (numbers_of ms) → lows ≡ map (low_of sizes) (range_with_len 0 (length sizes)) → lows ≡ lows_from 0 ms
@@ -51,28 +49,15 @@ parents_are lows next parents a b =
     (λ i. if nat_lt (get_or (a i) k 0) (n i) then get_or (a i) k 0 else k)
     ∙ sym (parents_answered lows k h))
 
-parent_below : (lows : List ℕ) (k : ℕ) → k < length lows → parent_at lows k < length lows
-parent_below lows k h = subst (λ (j : ℕ). j < length lows) (sym (parents_answered lows k h)) (by (nat_lt (get_or (nexts lows lows) k 0) (length lows)) refl)
-  where
-    by : (b : Bool) → nat_lt (get_or (nexts lows lows) k 0) (length lows) ≡ b → (if b then get_or (nexts lows lows) k 0 else k) < length lows
-    by true e = grind (arith, nat_tests)
-    by false e = h
-
-pub parents_inside : (lows parents : List ℕ) → parents ≡ parents_by lows → (i : ℕ) → i < length parents → number_at parents i < length parents
-parents_inside lows parents e i h =
-    let n : length parents ≡ length lows = many_of (parent_at lows) (length lows) parents e in
-    let v = value_at (parent_at lows) 0 (length lows) parents i e (omega arith) in
-    let b = parent_below lows i (omega arith) in
-    omega arith
-
 -- ---- places
-pub places_are : (lows parents children closed places : List ℕ) → length lows ≤ 536870914 → parents ≡ parents_by lows → children ≡ map (equal_before parents (length parents)) (range_with_len 0 (length parents)) → closed ≡ prefixes adds children → places ≡ map (place_of parents closed) (range_with_len 0 (length parents)) → places ≡ map (place_at parents) (range_with_len 0 (length lows))
-places_are lows parents children closed places few e o s p =
-    let n : length parents ≡ length lows = many_of (parent_at lows) (length lows) parents e in
+pub next_many : (lows next : List ℕ) → next ≡ nexts lows lows → length next ≡ length lows
+next_many lows next e = ap length e ∙ length-map-range_with_len _ 0 (length lows)
+
+pub places_are : (lows next children closed places : List ℕ) → length lows ≤ 536870914 → next ≡ nexts lows lows → children ≡ map (equal_before next (length next)) (range_with_len 0 (length next)) → closed ≡ prefixes adds children → places ≡ map (place_of next closed) (range_with_len 0 (length next)) → places ≡ map (place_at (parents_by lows)) (range_with_len 0 (length lows))
+places_are lows next children closed places few e o s p =
     p
-    ∙ same_below (place_of parents closed) (place_at parents) (length parents)
-    (place_is parents children closed o s (omega arith) (subst AreParents (sym e) (spans_nest lows)) (parents_inside lows parents e))
-    ∙ ap (λ (n : ℕ). map (place_at parents) (range_with_len 0 n)) n
+    ∙ ap (λ (n : ℕ). map (place_of next closed) (range_with_len 0 n)) (next_many lows next e)
+    ∙ same_below (place_of next closed) (place_at (parents_by lows)) (length lows) (place_is next children closed o s lows e few)
 
 -- ---- words
 word_back : (o : Option ℕ) → IsSmall o → token_of (token_word o) ≡ o
@@ -86,9 +71,9 @@ word_back (Some t) h = by (nat_eq t 4294967295) other
     by true e = absurd (cc)
     by false e = refl
 
-pub laid_are : (ms : List Mark) (kinds : List Kind) (sizes tokens lows next parents children closed places : List ℕ) → length ms ≤ 536870914 → AreRowColumns ms kinds sizes tokens → AreSmall ms →
-    lows ≡ map (low_of sizes) (range_with_len 0 (length sizes)) → next ≡ nexts lows lows → parents ≡ map (parent_of next) (range_with_len 0 (length next)) → children ≡ map (equal_before parents (length parents)) (range_with_len 0 (length parents)) → closed ≡ prefixes adds children → places ≡ map (place_of parents closed) (range_with_len 0 (length parents)) → AreColumns ms kinds parents tokens places
-laid_are ms kinds sizes tokens lows next parents children closed places few known small a b e o c p =
+pub laid_are : (ms : List Mark) (kinds : List Kind) (sizes tokens lows next parents places : List ℕ) → length ms ≤ 536870914 → AreRowColumns ms kinds sizes tokens → AreSmall ms →
+    lows ≡ map (low_of sizes) (range_with_len 0 (length sizes)) → next ≡ nexts lows lows → parents ≡ map (parent_of next) (range_with_len 0 (length next)) → places ≡ map (place_at (parents_by lows)) (range_with_len 0 (length lows)) → AreColumns ms kinds parents tokens places
+laid_are ms kinds sizes tokens lows next parents places few known small a b e p =
     let l : lows ≡ lows_from 0 ms = lows_are ms sizes lows few known.sizes_are a in
     let q : parents ≡ parents_by lows = parents_are lows next parents b e in
     let s : parents ≡ parents_by (lows_from 0 ms) = q ∙ ap parents_by l in
@@ -96,7 +81,7 @@ laid_are ms kinds sizes tokens lows next parents children closed places few know
       kinds_are = known.kinds_are;
       parents_are = s;
       tokens_are = known.tokens_are;
-      places_are = places_are lows parents children closed places (let m = ap length l ∙ lows_many 0 ms in omega arith) q o c p ∙ ap (λ (n : ℕ). map (place_at parents) (range_with_len 0 n)) (ap length l ∙ lows_many 0 ms) ∙ ap (λ qs. map (place_at qs) (numbers_of ms)) s;
+      places_are = p ∙ ap (λ (n : ℕ). map (place_at (parents_by lows)) (range_with_len 0 n)) (ap length l ∙ lows_many 0 ms) ∙ ap (λ ls. map (place_at (parents_by ls)) (numbers_of ms)) l;
       words = λ k h. word_back (settled_at ms k) (small k h);
     }
 
@@ -138,9 +123,6 @@ keys_are ms kinds sizes tokens keys known small e =
 
 pub marks_few : (ms : List Mark) (kinds : List Kind) (sizes tokens : List ℕ) → AreRowColumns ms kinds sizes tokens → length kinds ≤ 536870914 → length ms ≤ 536870914
 marks_few ms kinds sizes tokens known few = let n = many_of (λ k. (mark_at ms k).kind) (length ms) kinds known.kinds_are in omega arith
-
-pub next_many : (lows next : List ℕ) → next ≡ nexts lows lows → length next ≡ length lows
-next_many lows next e = ap length e ∙ length-map-range_with_len _ 0 (length lows)
 
 pub parents_up : (lows parents : List ℕ) → parents ≡ parents_by lows → (i : ℕ) → i < length parents → i ≤ get_or parents i 0
 parents_up lows parents e i h =

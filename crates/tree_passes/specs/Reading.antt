@@ -96,15 +96,15 @@ low_of sizes k = min (suc k - slice_index_or sizes k 0) 4294967295
 abbrev pub parent_of : List ℕ → ℕ → ℕ
 parent_of next k = if nat_lt (slice_index_or next k 0) (length next) then slice_index_or next k 0 else k
 
--- how many rows before a row have their parents behind it, from how many children the rows before each row have
-abbrev pub waits_of : (parents closed : List ℕ) → ℕ → ℕ
-waits_of parents closed k = suc k - slice_index_or closed (suc k) 0 - (if nat_lt k (slice_index_or parents k 0) then 1 else 0)
+-- how many rows before a row have their next one behind it, from how many rows have the rows before each row as their next one
+abbrev pub waits_of : (next closed : List ℕ) → ℕ → ℕ
+waits_of next closed k = suc k - slice_index_or closed (suc k) 0 - (if nat_lt k (slice_index_or next k 0) then 1 else 0)
 
--- the place of a row among its siblings; the root has none
-abbrev pub place_of : (parents closed : List ℕ) → ℕ → ℕ
-place_of parents closed k =
-    let parent = slice_index_or parents k 0 in
-    if parent == k then 0 else min (waits_of parents closed k - waits_of parents closed parent) 4294967295
+-- the place of a row among its siblings; where the next row lies behind all, it is a root and has none
+abbrev pub place_of : (next closed : List ℕ) → ℕ → ℕ
+place_of next closed k =
+    let parent = slice_index_or next k 0 in
+    if nat_lt parent (length next) then min (waits_of next closed k - waits_of next closed parent) 4294967295 else 0
 
 -- the number of a token's word
 abbrev pub number_in : ℕ → ℕ

@@ -1,12 +1,12 @@
-//! Own tokens, parents and places of rows, and the keys of their faults, from kinds, words and sizes.
+//! Own tokens and parents of rows, and the keys of their faults, from kinds, words and sizes.
 ghost use Rattle.std.specs.Prelude.{◌≡◌, ◌-◌, ◌^◌, ◌≤◌, ◌<◌, length, map, fold, min, slice_index_or, IfOk};
 ghost use Rattle.std.specs.List.{range_with_len};
-ghost use Rattle.tree_passes.specs.Reading.{low_of, number_in, parent_of, place_of as place_by, settled_of, waits_of};
+ghost use Rattle.tree_passes.specs.Reading.{low_of, number_in, parent_of, settled_of};
 ghost use Rattle.tree_passes.specs.RowFaults.{fault_word, kind_at};
 
-use crate::columns::{number, sum};
+use crate::columns::number;
 use crate::faults::fault_of;
-use crate::places::{place_of, settled};
+use crate::places::settled;
 use par_passes::Passes;
 use source_meaning::Kind;
 use std::alloc::AllocError;
@@ -73,40 +73,6 @@ pub(crate) fn parents_all(crew: &impl Passes, next: &[u32]) -> Result<Vec<u32>, 
         ensures { result ≡ parent_of next.entry.now k }
     { parent_in(next, k) };
     crew.tabulate(next.len() as u32, &at)
-}
-
-// How many rows before a row wait for their parents at it.
-fn waits_in(parents: &[u32], closed: &[u64], row: u32) -> u64
-    ensures { result ≡ waits_of parents.now closed.now row }
-{
-    let at = row as usize;
-    let open = (u64::from(row) + 1).saturating_sub(sum(closed, at + 1));
-    open.saturating_sub(u64::from(row < number(parents, at)))
-}
-
-// How many rows before a row have its parent.
-fn rank_in(parents: &[u32], closed: &[u64], row: u32) -> u32
-    ensures { result ≡ min (waits_of parents.now closed.now row - waits_of parents.now closed.now (slice_index_or parents.now row 0)) 4294967295 }
-{
-    let parent = number(parents, row as usize);
-    waits_in(parents, closed, row)
-        .saturating_sub(waits_in(parents, closed, parent))
-        .min(u64::from(u32::MAX)) as u32
-}
-
-/// The places of the rows among their siblings, from how many children the rows before each row have.
-pub(crate) fn places_all(
-    crew: &impl Passes,
-    parents: &[u32],
-    closed: &[u64],
-) -> Result<Vec<u32>, AllocError>
-    requires few { length parents.now ≤ 536870914 }
-    ensures { IfOk result (λ v. v.items ≡ map (place_by parents.now closed.now) (range_with_len 0 (length parents.now))) }
-{
-    let at = |k: u32| -> u32
-        ensures { result ≡ place_by parents.entry.now closed.entry.now k }
-    { place_of(number(parents, k as usize), k, rank_in(parents, closed, k)) };
-    crew.tabulate(parents.len() as u32, &at)
 }
 
 // The number of the token that a word stands for, and 0 where it stands for none.

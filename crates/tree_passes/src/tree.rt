@@ -18,17 +18,17 @@ ghost use Rattle.tree_passes.specs.TokensOf.{AreOwned, no_token};
 ghost use Rattle.tree_passes.specs.TreeColumns.{AreClosing, AreRowColumns, AreSmall, AreTreeColumns, IsLeastKey, IsParseOf};
 ghost use Rattle.tree_passes.specs.declared.fault.ShapeFault.TheVariants.{Diagnostic as Told};
 
-use crate::climbing::{least_fault, lows_all, parents_all, places_all, tokens_all};
+use crate::climbing::{least_fault, lows_all, parents_all, tokens_all};
 use crate::fault::ShapeFault;
 use crate::joining::{made_all, makers, row_sums};
 use crate::laid::lay;
 use crate::levels::near;
-use crate::ordering::{closed_sums, order};
+use crate::ordering::order;
 use crate::points::{Point, points_all};
 use crate::reading::owned_all;
 use crate::row_columns::{ends_all, kinds_all, sizes_all, words_all};
+use crate::siblings::count_siblings;
 use ast_rows::{Rows, Tokens};
-use key_passes::counted;
 use near_stretches::all_nearest;
 use nearest_all::Nearest;
 use par_passes::Passes;
@@ -133,10 +133,15 @@ fn lay_rows(crew: &impl Passes, columns: Columns) -> Result<Rows, AllocError>
     let lows = lows_all(crew, columns.sizes.as_slice())?;
     let nearest = all_nearest(crew, lows.as_slice(), lows.as_slice())?;
     let parents = parents_all(crew, nearest.next.as_slice())?;
-    let children = counted(crew, parents.as_slice(), parents.len())?;
-    let closed = closed_sums(crew, children.as_slice())?;
-    let places = places_all(crew, parents.as_slice(), closed.as_slice())?;
-    Ok(lay(columns.kinds, parents, columns.tokens, places))
+    let siblings = count_siblings(crew, nearest.next.as_slice())?;
+    Ok(lay(
+        columns.kinds,
+        parents,
+        columns.tokens,
+        siblings.places,
+        nearest.begin,
+        siblings.counts,
+    ))
 }
 
 // The columns of the rows of the text's tree.

@@ -11,7 +11,6 @@ ghost use Rattle.type_pass.specs.declared.fault.TypeFault.TheVariants.{Diagnosti
 use crate::columned::{functions, functions_before, least_key, types};
 use crate::columns::{Columns, tokens_fit};
 use crate::fault::{TypeFault, diagnosis};
-use crate::targets::targets;
 use ast_rows::{Names, Rows, Types};
 use par_passes::Passes;
 
@@ -22,8 +21,7 @@ pub fn check(crew: &impl Passes, rows: &Rows, names: &Names) -> Result<Types, Ty
     ensures ok { IfOk result (λ v. (p : Source) → rows.now ≡ post p → shape_faults p ≡ [] → AreNames p (λ k. slice_index_or names.now.meant k None) (λ k. slice_index_or names.now.numbers k 0) names.now.main → (type_faults p ≡ []) × (v ≡ types_of p)) }
     ensures fault { (code at : ℕ) → result ≡ Err (Told code at) → (p : Source) → rows.now ≡ post p → shape_faults p ≡ [] → AreNames p (λ k. slice_index_or names.now.meant k None) (λ k. slice_index_or names.now.numbers k 0) names.now.main → earliest (type_faults p) ≡ Some (record { at = at; code = code }) }
 {
-    let targets = targets(crew, rows)?;
-    let types = types(crew, rows.kinds(), names.meant(), &targets)?;
+    let types = types(crew, rows.kinds(), names.meant(), rows.lows())?;
     let functions = functions(crew, rows.kinds())?;
     let before = functions_before(crew, rows.kinds())?;
     let columns = Columns {

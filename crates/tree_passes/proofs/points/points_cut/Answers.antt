@@ -1,4 +1,4 @@
-use Rattle.std.proofs.Common.{◌≡◌, suc, ◌+◌, ◌≤◌, ℕ, length, subst, sym, ◌∙◌, arith}
+use Rattle.std.proofs.Common.{◌≡◌, suc, ◌+◌, ℕ, length, subst, sym, ◌∙◌, arith}
 use Rattle.par_passes.proofs.Calling.{if_ok}
 use Rattle.tree_passes.specs.Points.{Covers, points_by}
 use Rattle.tree_passes.proofs.Kept.{points_cover}

@@ -9,28 +9,26 @@ pub returns-in-Some-clause-fault : goal.returns-in-Some-clause-fault
 returns-in-Some-clause-fault g c = λ code at e p is shaped are.
     let rows = c.args.rows.now in
     let names = c.args.names.now in
-    let cells = c.in_ok-targets.targets.items in
-    let types_are = c.deref-2.ensures.value ∙ column_there rows names cells c.kinds.result.now c.meant.result.now c.deref.result.now c.in_ok-types.types.items c.kinds.ensures c.meant.ensures c.deref.ensures.value c.in_ok-types.ensures in
-    let functions_are = c.deref-3.ensures.value ∙ (c.in_ok-functions.ensures ∙ ap functions_by c.kinds-2.ensures) in
-    let before_are = c.deref-4.ensures.value ∙ (c.in_ok-before.ensures ∙ ap before_by c.kinds-3.ensures) in
-    let key_is = key_there rows names cells c.kinds-4.result.now c.parents.result.now c.tokens.result.now c.places.result.now c.meant-2.result.now c.deref-2.result.now c.deref-3.result.now c.deref-4.result.now
+    let types_are = c.deref.ensures.value ∙ column_there rows names c.kinds.result.now c.meant.result.now c.lows.result.now c.in_ok-types.types.items c.kinds.ensures c.meant.ensures c.lows.ensures c.in_ok-types.ensures in
+    let functions_are = c.deref-2.ensures.value ∙ (c.in_ok-functions.ensures ∙ ap functions_by c.kinds-2.ensures) in
+    let before_are = c.deref-3.ensures.value ∙ (c.in_ok-before.ensures ∙ ap before_by c.kinds-3.ensures) in
+    let key_is = key_there rows names c.kinds-4.result.now c.parents.result.now c.tokens.result.now c.places.result.now c.meant-2.result.now c.deref.result.now c.deref-2.result.now c.deref-3.result.now
     c.kinds-4.ensures c.parents.ensures c.tokens.ensures c.places.ensures c.meant-2.ensures types_are functions_are before_are c.in_ok-key.key c.in_ok-key.ensures in
     let low = subst (λ (l : List ℕ). (k : ℕ) → get_or l k 0 < 2 ^ 32) c.tokens.ensures c.tokens_fit.ensures in
     let same : c.in-Some.fault ≡ Diagnostic code at = cc in
-    something rows names cells c.requires.nodes c.in_ok-targets.ensures p is shaped are low c.in_ok-key.key key_is c.diagnosis.result c.diagnosis.ensures c.in-Some.fault c.in-Some.is code at same
+    something rows names c.requires.nodes p is shaped are low c.in_ok-key.key key_is c.diagnosis.result c.diagnosis.ensures c.in-Some.fault c.in-Some.is code at same
 
-pub returns-clause-ok : goal.returns-clause-ok
-returns-clause-ok g c = λ p is shaped are.
+pub returns-in-None-clause-ok : goal.returns-in-None-clause-ok
+returns-in-None-clause-ok g c = λ p is shaped are.
     let rows = c.args.rows.now in
     let names = c.args.names.now in
-    let cells = c.in_ok-targets.targets.items in
-    let column = column_there rows names cells c.kinds.result.now c.meant.result.now c.deref.result.now c.in_ok-types.types.items c.kinds.ensures c.meant.ensures c.deref.ensures.value c.in_ok-types.ensures in
-    let types_are = c.deref-2.ensures.value ∙ column in
-    let functions_are = c.deref-3.ensures.value ∙ (c.in_ok-functions.ensures ∙ ap functions_by c.kinds-2.ensures) in
-    let before_are = c.deref-4.ensures.value ∙ (c.in_ok-before.ensures ∙ ap before_by c.kinds-3.ensures) in
-    let key_is = key_there rows names cells c.kinds-4.result.now c.parents.result.now c.tokens.result.now c.places.result.now c.meant-2.result.now c.deref-2.result.now c.deref-3.result.now c.deref-4.result.now
+    let column = column_there rows names c.kinds.result.now c.meant.result.now c.lows.result.now c.in_ok-types.types.items c.kinds.ensures c.meant.ensures c.lows.ensures c.in_ok-types.ensures in
+    let types_are = c.deref.ensures.value ∙ column in
+    let functions_are = c.deref-2.ensures.value ∙ (c.in_ok-functions.ensures ∙ ap functions_by c.kinds-2.ensures) in
+    let before_are = c.deref-3.ensures.value ∙ (c.in_ok-before.ensures ∙ ap before_by c.kinds-3.ensures) in
+    let key_is = key_there rows names c.kinds-4.result.now c.parents.result.now c.tokens.result.now c.places.result.now c.meant-2.result.now c.deref.result.now c.deref-2.result.now c.deref-3.result.now
     c.kinds-4.ensures c.parents.ensures c.tokens.ensures c.places.ensures c.meant-2.ensures types_are functions_are before_are c.in_ok-key.key c.in_ok-key.ensures in
     let low = subst (λ (l : List ℕ). (k : ℕ) → get_or l k 0 < 2 ^ 32) c.tokens.ensures c.tokens_fit.ensures in (
-      nothing rows names cells c.requires.nodes c.in_ok-targets.ensures p is shaped are low c.in_ok-key.key key_is c.diagnosis.result c.diagnosis.ensures c.in-None.is,
-      c.new.ensures ∙ (column ∙ types_there rows names cells c.requires.nodes c.in_ok-targets.ensures p is shaped are),
+      nothing rows names c.requires.nodes p is shaped are low c.in_ok-key.key key_is c.diagnosis.result c.diagnosis.ensures c.in-None.is,
+      c.new.ensures ∙ (column ∙ types_there rows names c.requires.nodes p is shaped are),
     )

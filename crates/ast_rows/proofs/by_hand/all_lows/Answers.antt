@@ -1,0 +1,7 @@
+use Rattle.std.proofs.Common.{sym, ◌∙◌, ◌∷◌, [], ◌++◌, arith}
+use Rattle.std.proofs.lemmas.List.FromFn.{map-range_with_len_more}
+use Rattle.ast_rows.specs.NodeRows.{low_at}
+use Rattle.ast_rows.proofs.by_hand.all_lows.Goals as goal
+
+pub loop-i-preserved : goal.loop-i-preserved
+loop-i-preserved c = c.in_ok-push.ensures.items ∙ (λ i. c.loop-i.invariant i ++ c.first_row.ensures.low i ∷ []) ∙ sym (map-range_with_len_more (low_at c.args.parents.now) 0 c.loop-i.i c.loop-i.i (omega arith))
