@@ -1,0 +1,8 @@
+//! LLP(2,1): the set PSLS with two terminals of look-back.
+#![tactic(auto)]
+
+mod endings;
+mod laws;
+mod places;
+
+pub use laws::{one_terminal_serves_two, wide_look_back_by_rules};
