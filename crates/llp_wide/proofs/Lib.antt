@@ -3,3 +3,6 @@ pub mod WideRules
 pub mod LastSets
 pub mod Additions
 pub mod SpotLists
+pub mod Finding
+pub mod WideBounds
+pub mod Surveying

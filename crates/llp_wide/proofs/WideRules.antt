@@ -137,7 +137,7 @@ module _ (g : Grammar) where
 
   -- ---- by rules, then by derivations
 
-  at_place : (z0 owner z : ℕ) (s : Symbol) (after : List Symbol) (u : List Symbol) → IsWidePlace g z0 owner z s after → Stands g z0 (Nonterminal owner ∷ u) → Stands g z (s ∷ (after ++ u))
+  pub at_place : (z0 owner z : ℕ) (s : Symbol) (after : List Symbol) (u : List Symbol) → IsWidePlace g z0 owner z s after → Stands g z0 (Nonterminal owner ∷ u) → Stands g z (s ∷ (after ++ u))
   at_place z0 owner z s after u place stands =
       let rule : Rule g place.p owner place.rule.right = place.rule_is ∙ ap (λ (n : ℕ). Some (record { left = n; right = place.rule.right })) place.left_is in
       let opened : Stands g z0 (place.before ++ (s ∷ (after ++ u))) = subst (Stands g z0) (ap (λ (f : List Symbol). f ++ u) place.right_is ∙ append_assoc place.before (s ∷ after) u) (stands_expand g z0 owner place.p place.rule.right u stands rule) in

@@ -1,5 +1,5 @@
 -- Entrances that are found, and those whose right sides are still to be walked.
-use Rattle.std.specs.Prelude.{◌≡◌, ℕ, ◌+◌, ◌*◌, ◌<◌, ◌≤◌, ◌⊎◌, List, [], ◌∷◌, length, Bool, true, false, if◌then◌else◌, slice_index_or}
+use Rattle.std.specs.Prelude.{◌≡◌, ℕ, ◌+◌, ◌*◌, ◌<◌, ◌≤◌, ◌⊎◌, List, [], ◌∷◌, length, Bool, true, false, if◌then◌else◌, Some, slice_get, slice_index_or}
 use Rattle.grammar_file.specs.declared.symbols.Symbol.TheVariants.{Nonterminal}
 use Rattle.llp_wide.specs.declared.places.Entrance.{Entrance}
 use Rattle.llp_wide.specs.Added.{IsIn, SomeBelow}
@@ -29,3 +29,11 @@ pub record Finds (count : ℕ) (asked : Entrance → Type 0) (marks0 : List Bool
 -- the spot's symbol is a nonterminal, and this is its entrance
 abbrev pub Opens : Spot → Entrance → Type 0
 Opens spot e = (spot.symbol ≡ Nonterminal e.nonterminal) × (spot.before ≡ e.before)
+
+-- one of the first n spots opens it
+abbrev pub OpensIn : List Spot → ℕ → Entrance → Type 0
+OpensIn spots n = SomeBelow n (λ k e. (spot : Spot) × (slice_get spots k ≡ Some spot) × Opens spot e)
+
+-- the marks have a place for each entrance that the spots open
+abbrev pub HaveRoom : ℕ → List Spot → ℕ → Type 0
+HaveRoom count spots size = (spot : Spot) → IsIn spots spot → (e : Entrance) → Opens spot e → (e.nonterminal < count) × (place_of count e < size)

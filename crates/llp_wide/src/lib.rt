@@ -4,5 +4,6 @@
 mod endings;
 mod laws;
 mod places;
+mod survey;
 
 pub use laws::{one_terminal_serves_two, wide_look_back_by_rules};
