@@ -6,3 +6,6 @@ pub mod SpotLists
 pub mod Finding
 pub mod WideBounds
 pub mod Surveying
+pub mod ClaimLists
+pub mod WideSettling
+pub mod ClassLists

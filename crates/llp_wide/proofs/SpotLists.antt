@@ -14,12 +14,12 @@ use Rattle.llp_wide.specs.Endings.{IsLast, is_ending, marks_in, marks_at}
 use Rattle.llp_wide.specs.Places.{Spot, IsSpotAt, IsSpotIn, IsSpotBy}
 use Rattle.llp_wide.proofs.Additions.{adds_one, adds_none, adds_as}
 
-get_front : {A : Type 0} (xs : List A) (x : A) (k : ℕ) → k < length xs → slice_get (xs ++ x ∷ []) k ≡ slice_get xs k
+pub get_front : {A : Type 0} (xs : List A) (x : A) (k : ℕ) → k < length xs → slice_get (xs ++ x ∷ []) k ≡ slice_get xs k
 get_front [] x k l = absurd (omega arith)
 get_front (y ∷ xs) x zero l = refl
 get_front (y ∷ xs) x (suc k) l = get_front xs x k (omega arith)
 
-get_last : {A : Type 0} (xs : List A) (x : A) → slice_get (xs ++ x ∷ []) (length xs) ≡ Some x
+pub get_last : {A : Type 0} (xs : List A) (x : A) → slice_get (xs ++ x ∷ []) (length xs) ≡ Some x
 get_last [] x = refl
 get_last (y ∷ xs) x = get_last xs x
 

@@ -4,3 +4,5 @@ pub mod Endings
 pub mod Added
 pub mod Places
 pub mod Surveys
+pub mod Claims
+pub mod Classes

@@ -1,9 +1,11 @@
 //! LLP(2,1): the set PSLS with two terminals of look-back.
 #![tactic(auto)]
 
+mod claims;
 mod endings;
 mod laws;
 mod places;
+mod search;
 mod survey;
 
 pub use laws::{one_terminal_serves_two, wide_look_back_by_rules};
