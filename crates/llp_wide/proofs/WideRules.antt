@@ -8,7 +8,8 @@ use Rattle.grammar_file.specs.Drive.{Rule, Reads, Drives, first_stack}
 use Rattle.grammar_file.proofs.Words.{same_head, same_tail, same_terminal, terminal-nonterminal, nil-cons, word-cons}
 use Rattle.grammar_file.proofs.Derives.{derives_step, derives_terminal, behind_terminal, derives_nil}
 use Rattle.grammar_file.proofs.Drives.{drives_of_first}
-use Rattle.llp_tables.specs.Predict.{IsNullable}
+use Rattle.llp_tables.specs.Slots.{Slots, Empty, One, Two}
+use Rattle.llp_tables.specs.LeastMembers.{KeepsLeast}
 use Rattle.llp_tables.specs.Lookback.{BeginsAtLast, IsLookback, IsLlp}
 use Rattle.llp_tables.proofs.Rules.{parted, begins-cut, begins-more, one_end, no_beta}
 use Rattle.llp_wide.specs.Wide.{wide_whole, IsWideLookback, IsWideLlp}
@@ -157,3 +158,9 @@ module _ (g : Grammar) where
 
   pub by_derivations : (z a b : ℕ) (beta : List Symbol) → WideBehind g z (Terminal a) b beta → IsWideLookback g z a b beta
   by_derivations z a b beta h = let r = behind_stands z (Terminal a) b beta h in (r.0, stands_after g z a (beta ++ r.0) r.1, r.2)
+
+-- the same cell for a set in other words
+pub keeps_as : (one two : List Symbol → Type 0) (c : Slots) → ((w : List Symbol) → one w → two w) → ((w : List Symbol) → two w → one w) → KeepsLeast one c → KeepsLeast two c
+keeps_as one two Empty there back k = λ w m. k w (back w m)
+keeps_as one two (One x) there back k = (there x k.0, λ w m. k.1 w (back w m))
+keeps_as one two (Two x y) there back k = (there x k.0, there y k.1, k.2, λ w m. k.3 w (back w m))
