@@ -26,7 +26,7 @@ module _ (g : Grammar) (nullable first : List Bool) (b : ℕ) (nulls : AreMarksO
   starts_first s h = beginning g nullable first b nulls.sound firsts.sound (s ∷ []) (or_left (starts first b s) (vanishes nullable s && false) h)
 
   -- a stop is a front of what stands there, and b begins at its last symbol
-  stop_begins : (after : List Symbol) (n : ℕ) (w : List Symbol) → IsStop nullable first b after n w → (rest : List Symbol) × (after ≡ w ++ rest) × BeginsAtLast g w b
+  pub stop_begins : (after : List Symbol) (n : ℕ) (w : List Symbol) → IsStop nullable first b after n w → (rest : List Symbol) × (after ≡ w ++ rest) × BeginsAtLast g w b
   stop_begins after n w h =
       let k = both (all_vanish nullable (take h.place after)) (starts first b h.last) h.stops in
       let one : take (h.place + 1) after ≡ take h.place after ++ h.last ∷ [] =
@@ -97,7 +97,7 @@ module _ (g : Grammar) (nullable first : List Bool) (b : ℕ) (nulls : AreMarksO
 
   -- ---- and all that is so is forced
 
-  stop_of : (after beta rest : List Symbol) → after ≡ beta ++ rest → BeginsAtLast g beta b → IsStop nullable first b after (length after) beta
+  pub stop_of : (after beta rest : List Symbol) → after ≡ beta ++ rest → BeginsAtLast g beta b → IsStop nullable first b after (length after) beta
   stop_of after beta rest cut begin =
       record {
         place = length begin.0;

@@ -10,7 +10,7 @@ use Rattle.grammar_file.proofs.Words.{same_nonterminal}
 use Rattle.llp_tables.specs.Predict.{IsFirst}
 use Rattle.llp_tables.specs.Behind.{Behind, here, through, of_start, of_begin}
 use Rattle.llp_tables.proofs.FollowSets.{begins_first}
-use Rattle.llp_tables.proofs.Predictions.{right_within}
+use Rattle.llp_tables.proofs.PredictSets.{right_within}
 
 module _ (g : Grammar) (well : IsWellFormed g) where
   -- the symbol is one of the grammar's, or the end mark

@@ -5,7 +5,7 @@ use Rattle.std.proofs.lemmas.Option.{none-some, same_Some}
 use Rattle.grammar_file.specs.Grammar.{Grammar, Production, production}
 use Rattle.llp_tables.specs.Predict.{IsPredicted}
 use Rattle.llp_tables.specs.Pieces.{ArePredictions}
-use Rattle.llp_tables.proofs.Predictions.{predicted_number}
+use Rattle.llp_tables.proofs.PredictSets.{predicted_number}
 
 module _ (g : Grammar) (b : ℕ) where
   -- the predicted ones of the first n productions

@@ -13,16 +13,21 @@ use std::mem;
 
 /// Nothing, one string, or two, the lesser one first.
 #[derive(Drop)]
-pub(crate) enum Cell {
+pub enum Cell {
+    /// No string.
     Nothing,
+    /// One string.
     Least(Vec<Symbol>),
+    /// Two strings, the lesser one first.
     TwoLeast(Vec<Symbol>, Vec<Symbol>),
 }
 
 /// A cell for each symbol: what is closed behind it.
 #[derive(Drop)]
-pub(crate) struct Members {
+pub struct Members {
+    /// The cells of the terminals, by number.
     pub terminals: Vec<Cell>,
+    /// The cells of the nonterminals, by number.
     pub nonterminals: Vec<Cell>,
 }
 
@@ -93,7 +98,7 @@ fn empty_cells(alloc: Global, size: usize) -> Result<Vec<Cell>, AllocError>
 
 impl Members {
     /// The cell of a nonterminal.
-    pub(crate) fn nonterminal(&self, a: u16) -> &Cell
+    pub fn nonterminal(&self, a: u16) -> &Cell
         requires { a < length self.now.nonterminals.items }
         ensures { slots_of result.now ≡ cell_of self.now (AnyNonterminal a) }
     {
@@ -101,11 +106,7 @@ impl Members {
     }
 
     /// No members.
-    pub(crate) fn new(
-        alloc: Global,
-        terminals: usize,
-        nonterminals: usize,
-    ) -> Result<Members, AllocError>
+    pub fn new(alloc: Global, terminals: usize, nonterminals: usize) -> Result<Members, AllocError>
         ensures terminals { IfOk result (λ m. length m.terminals.items ≡ terminals) }
         ensures nonterminals { IfOk result (λ m. length m.nonterminals.items ≡ nonterminals) }
         ensures empty { IfOk result (λ m. (s : AnySymbol) → cell_of m s ≡ EmptySlots) }
@@ -119,7 +120,7 @@ impl Members {
     }
 
     /// Whether the symbol's cell has the string, or two of which none is greater.
-    pub(crate) fn covers(&self, symbol: Symbol, w: &[Symbol]) -> bool
+    pub fn covers(&self, symbol: Symbol, w: &[Symbol]) -> bool
         ensures { result ≡ covers (cell_of self.now symbol) w.now }
     {
         match symbol {
@@ -129,7 +130,7 @@ impl Members {
     }
 
     /// Adds a string to the symbol's cell, where there is room for it.
-    pub(crate) fn add(&mut self, symbol: Symbol, w: Vec<Symbol>)
+    pub fn add(&mut self, symbol: Symbol, w: Vec<Symbol>)
         requires { HasCell self.old symbol }
         ensures terminals { length self.new.terminals.items ≡ length self.old.terminals.items }
         ensures nonterminals { length self.new.nonterminals.items ≡ length self.old.nonterminals.items }

@@ -17,7 +17,7 @@ use grammar_file::Grammar;
 use std::alloc::{AllocError, Global};
 
 /// Why a grammar isn't LL(1): its least left-recursive nonterminal, else its least conflict of predictions.
-fn ll1_fault(alloc: Global, grammar: &Grammar) -> Result<Option<TableFault>, AllocError>
+pub fn ll1_fault(alloc: Global, grammar: &Grammar) -> Result<Option<TableFault>, AllocError>
     ensures { IfOk result (λ o. MatchOption o (IsNotLeftRecursive grammar.now × IsLl1 grammar.now) (IsTableFault grammar.now)) }
 {
     let nullable = nullable(alloc, grammar)?;

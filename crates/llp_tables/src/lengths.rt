@@ -52,10 +52,7 @@ fn next_length(productions: &[Production], lengths: &[Option<u64>]) -> Option<(u
 
 /// How many productions it takes to derive nothing from each nonterminal from which that can be derived. A count stops
 /// at the greatest u64. In a reduced LL(1) grammar there is one such derivation at most.
-pub(crate) fn empty_lengths(
-    alloc: Global,
-    grammar: &Grammar,
-) -> Result<Vec<Option<u64>>, AllocError> {
+pub fn empty_lengths(alloc: Global, grammar: &Grammar) -> Result<Vec<Option<u64>>, AllocError> {
     let productions = grammar.productions();
     let mut lengths = vec![in alloc; None; grammar.nonterminals().len()]?;
     for _ in 0..grammar.nonterminal_count() {
@@ -108,7 +105,7 @@ fn predicted_right<'a>(
 
 /// How many productions the piece takes that closes these symbols and reads b, by the sets of b. A count stops at the
 /// greatest u64.
-pub(crate) fn piece_length<'a>(
+pub fn piece_length<'a>(
     grammar: &'a Grammar,
     first: &[bool],
     predictions: &[Option<u16>],

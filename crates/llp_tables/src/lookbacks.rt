@@ -15,7 +15,7 @@ ghost use Rattle.llp_tables.specs.Tables.{IsLeastLookbackConflict};
 
 use crate::cells::{Cell, Members};
 use crate::fault::Stack;
-use crate::members::least_members;
+use crate::least::least_members;
 use crate::sets::first;
 use grammar_file::{Grammar, Symbol};
 use std::alloc::{AllocError, Global};
@@ -64,7 +64,7 @@ pub(crate) struct LookbackConflict {
 }
 
 /// The strings of a cell that has two.
-fn two_of(alloc: Global, cell: &Cell) -> Result<Option<(Vec<Symbol>, Vec<Symbol>)>, AllocError>
+pub fn two_of(alloc: Global, cell: &Cell) -> Result<Option<(Vec<Symbol>, Vec<Symbol>)>, AllocError>
     ensures { IfOk result (λ o. MatchOption o (HasNoTwo (slots_of cell.now)) (λ two. slots_of cell.now ≡ Two two.0.items two.1.items)) }
 {
     match cell {

@@ -106,7 +106,7 @@ fn read_terminal(
 }
 
 /// Adds the productions of the piece for b that closes these symbols, and gives what it opens.
-pub(crate) fn add_piece(
+pub fn add_piece(
     alloc: Global,
     grammar: &Grammar,
     predictions: &[Option<u16>],

@@ -55,7 +55,7 @@ fn predictions_by(
 }
 
 /// The production of each nonterminal that the terminal b predicts.
-pub(crate) fn predictions(
+pub fn predictions(
     alloc: Global,
     grammar: &Grammar,
     nullable: &[bool],

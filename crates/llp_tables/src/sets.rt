@@ -12,7 +12,7 @@ use grammar_file::{Grammar, Production, Symbol};
 use std::alloc::{AllocError, Global};
 
 /// Whether a nonterminal is marked.
-pub(crate) fn mark_of(marks: &[bool], nonterminal: u16) -> bool
+pub fn mark_of(marks: &[bool], nonterminal: u16) -> bool
     ensures { result ≡ slice_index_or marks.now nonterminal false }
 {
     match marks.get(nonterminal as usize) {
@@ -32,14 +32,14 @@ fn vanishes(nullable: &[bool], symbol: Symbol) -> bool
 }
 
 /// Whether the form may derive nothing.
-pub(crate) fn all_vanish(nullable: &[bool], form: &[Symbol]) -> bool
+pub fn all_vanish(nullable: &[bool], form: &[Symbol]) -> bool
     ensures { result ≡ all_vanish nullable.now form.now }
 {
     form.iter().all(|symbol| vanishes(nullable, *symbol))
 }
 
 /// Whether what the symbol derives may begin with the terminal b, by the marks on the nonterminals that do.
-pub(crate) fn starts(first: &[bool], b: u16, symbol: Symbol) -> bool
+pub fn starts(first: &[bool], b: u16, symbol: Symbol) -> bool
     ensures { result ≡ starts first.now b symbol }
 {
     match symbol {
@@ -90,7 +90,7 @@ fn next_first(productions: &[Production], nullable: &[bool], marks: &[bool], b: 
 }
 
 /// No marks on this many nonterminals.
-pub(crate) fn no_marks(alloc: Global, count: usize) -> Result<Vec<bool>, AllocError>
+pub fn no_marks(alloc: Global, count: usize) -> Result<Vec<bool>, AllocError>
     ensures len { IfOk result (λ v. length v.items ≡ count) }
     ensures none { IfOk result (λ v. (a : ℕ) → slice_index_or v.items a false ≡ false) }
 {
@@ -98,7 +98,7 @@ pub(crate) fn no_marks(alloc: Global, count: usize) -> Result<Vec<bool>, AllocEr
 }
 
 /// Marks the nonterminals that derive the empty word.
-pub(crate) fn nullable(alloc: Global, grammar: &Grammar) -> Result<Vec<bool>, AllocError>
+pub fn nullable(alloc: Global, grammar: &Grammar) -> Result<Vec<bool>, AllocError>
     ensures well_formed { IfOk result (λ v. IsWellFormed grammar.now) }
     ensures reduced { IfOk result (λ v. IsReduced grammar.now) }
     ensures marks { IfOk result (λ v. AreMarksOf grammar.now (λ a. IsNullable grammar.now (AnyNonterminal a ∷ [])) v.items) }
@@ -111,7 +111,7 @@ pub(crate) fn nullable(alloc: Global, grammar: &Grammar) -> Result<Vec<bool>, Al
 }
 
 /// Marks the nonterminals that have the terminal b in FIRST.
-pub(crate) fn first(
+pub fn first(
     alloc: Global,
     grammar: &Grammar,
     nullable: &[bool],

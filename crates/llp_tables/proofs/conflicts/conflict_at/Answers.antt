@@ -2,7 +2,7 @@ use Rattle.std.proofs.Common.{subst, sym}
 use Rattle.std.specs.Prelude.{MatchOption}
 use Rattle.llp_tables.specs.Tables.{HasConflict}
 use Rattle.llp_tables.specs.Conflicts.{AreTwoLeast}
-use Rattle.llp_tables.proofs.Predictions.{none_predicted, one_predicted, two_predicted}
+use Rattle.llp_tables.proofs.PredictSets.{none_predicted, one_predicted, two_predicted}
 use Rattle.llp_tables.proofs.conflicts.conflict_at.Goals as goal
 
 pub returns-in_err-p1 : goal.returns-in_err-p1

@@ -1,5 +1,5 @@
 use Rattle.std.proofs.Common.{arith}
-use Rattle.llp_tables.proofs.Predictions.{one_more_nonterminal, conflict_within}
+use Rattle.llp_tables.proofs.PredictSets.{one_more_nonterminal, conflict_within}
 use Rattle.llp_tables.proofs.conflicts.conflict_on.Goals as goal
 
 pub loop-a-preserved : goal.loop-a-preserved

@@ -1,5 +1,5 @@
 use Rattle.std.proofs.Common.{length, ap, arith}
-use Rattle.llp_tables.proofs.Predictions.{matched}
+use Rattle.llp_tables.proofs.PredictSets.{matched}
 use Rattle.llp_tables.proofs.conflicts.least_conflict.Goals as goal
 
 pub loop-b-preserved : goal.loop-b-preserved

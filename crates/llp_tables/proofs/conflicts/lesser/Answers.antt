@@ -1,6 +1,6 @@
 use Rattle.std.proofs.Common.{subst, arith}
 use Rattle.llp_tables.specs.Conflicts.{LeastBelow, LeastOn}
-use Rattle.llp_tables.proofs.Predictions.{first_one, kept, taken}
+use Rattle.llp_tables.proofs.PredictSets.{first_one, kept, taken}
 use Rattle.llp_tables.proofs.conflicts.lesser.Goals as goal
 
 pub returns-in-None-default : goal.returns-in-None-default

@@ -1,5 +1,5 @@
 use Rattle.std.proofs.Common.{arith}
-use Rattle.llp_tables.proofs.Predictions.{one_passed, predicted_number}
+use Rattle.llp_tables.proofs.PredictSets.{one_passed, predicted_number}
 use Rattle.llp_tables.proofs.conflicts.next_predicted.Goals as goal
 
 pub returns-then-predicts : goal.returns-then-predicts

@@ -2,7 +2,7 @@ use Rattle.std.proofs.Common.{◌<◌, ◌+◌, length, Some, ap, sym, subst, �
 use Rattle.std.proofs.lemmas.Bool.{true≢false}
 use Rattle.std.proofs.lemmas.Option.{slice_get-get_or}
 use Rattle.llp_tables.specs.Marking.{comes_behind}
-use Rattle.llp_tables.proofs.Predictions.{numbered, passes_predicted, predicted_passes}
+use Rattle.llp_tables.proofs.PredictSets.{numbered, passes_predicted, predicted_passes}
 use Rattle.llp_tables.proofs.conflicts.predicts.Goals as goal
 
 pub returns-then-left-a-clause-yes : goal.returns-then-left-a-clause-yes

@@ -1,6 +1,6 @@
 use Rattle.std.proofs.Common.{◌<◌, ◌+◌, length, Some, ap, sym, subst, ◌∙◌}
 use Rattle.std.proofs.lemmas.Option.{slice_get-get_or}
-use Rattle.llp_tables.proofs.Predictions.{numbered}
+use Rattle.llp_tables.proofs.PredictSets.{numbered}
 use Rattle.llp_tables.proofs.predicted.left_of.Goals as goal
 
 pub returns-clause-within : goal.returns-clause-within

@@ -4,7 +4,7 @@ use Rattle.llp_tables.specs.Forced.{IsPassedIn}
 use Rattle.llp_tables.specs.Slots.{add}
 use Rattle.llp_tables.specs.Waiting.{Adds, AreCovered, IsLeastWaiting}
 use Rattle.llp_tables.proofs.Settling.{settling_start, settling_on, settled, room_left, room_less, other_or_same, member_has_cell}
-use Rattle.llp_tables.proofs.members.least_members.Goals as goal
+use Rattle.llp_tables.proofs.least.least_members.Goals as goal
 
 pub loop-least-init : goal.loop-least-init
 loop-least-init c =

@@ -1,7 +1,7 @@
 use Rattle.std.proofs.Common.{◌≡◌, ◌+◌, length}
 use Rattle.llp_tables.specs.CellSlots.{cell_of, room_of}
 use Rattle.llp_tables.proofs.Settling.{IsSettling}
-use Rattle.llp_tables.proofs.members.least_members.Given as goal
+use Rattle.llp_tables.proofs.least.least_members.Given as goal
 
 abbrev pub invariant-loop-least : goal.invariant-loop-least
 invariant-loop-least l =

@@ -1,0 +1,91 @@
+-- Claims that are added.
+use Rattle.std.proofs.Common.{◌≡◌, ℕ, ◌+◌, ◌<◌, ◌⊎◌, inl, inr, ⊎_elim, List, [], ◌∷◌, ◌++◌, length, take, get_or, Bool, true, false, Some, slice_get, refl, sym, ap, ◌∙◌, subst}
+use Rattle.std.proofs.lemmas.Bool.{true≢false}
+use Rattle.std.proofs.lemmas.Option.{same_Some, slice_get-get_or}
+use Rattle.grammar_file.specs.declared.symbols.Symbol.{Symbol}
+use Rattle.grammar_file.specs.declared.symbols.Symbol.TheVariants.{Nonterminal}
+use Rattle.llp_tables.specs.Cells.{IsBefore}
+use Rattle.llp_tables.specs.Forced.{is_stop}
+use Rattle.llp_tables.specs.Marking.{all_vanish}
+use Rattle.llp_tables.specs.Slots.{Slots, covers}
+use Rattle.llp_tables.specs.Tables.{stack_lt}
+use Rattle.llp_tables.proofs.StackOrder.{before_not_itself, before_trans}
+use Rattle.llp_wide.specs.Added.{IsIn, Adds}
+use Rattle.llp_wide.specs.Places.{Spot}
+use Rattle.llp_wide.specs.Claims.{Claim, IsStopAt, IsPassAt, AreClaimsCovered, IsLeastClaim}
+use Rattle.llp_wide.proofs.Additions.{in_parts, in_still, in_last, adds_one, adds_none, adds_as}
+
+module _ (nullable first : List Bool) (b : ℕ) (after : List Symbol) (before : ℕ) (symbol : Symbol) (j : ℕ) (last : Symbol) (last_is : slice_get after j ≡ Some last) where
+  pub no_stop : (old : List Claim) → is_stop nullable first b (take j after) last ≡ false → Adds (IsStopAt nullable first b after before symbol j) old old
+  no_stop old e = adds_none (IsStopAt nullable first b after before symbol j) old
+      (λ x h. true≢false (sym h.2 ∙ (ap (is_stop nullable first b (take j after)) (same_Some h.0 last (sym h.1 ∙ last_is)) ∙ e)))
+
+  pub stop_added : (stack : List Symbol) (old new : List Claim) → is_stop nullable first b (take j after) last ≡ true → stack ≡ take (j + 1) after → new ≡ old ++ (record { before = before; symbol = symbol; stack = stack }) ∷ [] → Adds (IsStopAt nullable first b after before symbol j) old new
+  stop_added stack old new e stack_is grown =
+      let it : Claim = record { before = before; symbol = symbol; stack = take (j + 1) after } in
+      let grown_it : new ≡ old ++ it ∷ [] = grown ∙ ap (λ (w : List Symbol). old ++ (record { before = before; symbol = symbol; stack = w }) ∷ []) stack_is in
+      subst (λ (xs : List Claim). Adds (IsStopAt nullable first b after before symbol j) old xs) (sym grown_it)
+      (adds_as (λ (x : Claim). x ≡ it) (IsStopAt nullable first b after before symbol j) old (old ++ it ∷ []) (λ x h. (last, last_is, e, h)) (λ x h. h.3) (adds_one old it))
+
+module _ (nullable : List Bool) (owner : Claim) (spot : Spot) where
+  pub not_owner : (old : List Claim) → (owner.symbol ≡ Nonterminal spot.owner.nonterminal → owner.before ≡ spot.owner.before → ⊥) → Adds (IsPassAt nullable owner spot) old old
+  not_owner old never = adds_none (IsPassAt nullable owner spot) old (λ x h. never h.0 h.1)
+
+  pub not_passed : (old : List Claim) → all_vanish nullable spot.after ≡ false → Adds (IsPassAt nullable owner spot) old old
+  not_passed old e = adds_none (IsPassAt nullable owner spot) old (λ x h. true≢false (sym h.2 ∙ e))
+
+  pub pass_added : (stack : List Symbol) (old new : List Claim) → owner.symbol ≡ Nonterminal spot.owner.nonterminal → owner.before ≡ spot.owner.before → all_vanish nullable spot.after ≡ true → stack ≡ spot.after ++ owner.stack
+      → new ≡ old ++ (record { before = spot.before; symbol = spot.symbol; stack = stack }) ∷ [] → Adds (IsPassAt nullable owner spot) old new
+  pass_added stack old new symbol_is before_is e stack_is grown =
+      let it : Claim = record { before = spot.before; symbol = spot.symbol; stack = spot.after ++ owner.stack } in
+      let grown_it : new ≡ old ++ it ∷ [] = grown ∙ ap (λ (w : List Symbol). old ++ (record { before = spot.before; symbol = spot.symbol; stack = w }) ∷ []) stack_is in
+      subst (λ (xs : List Claim). Adds (IsPassAt nullable owner spot) old xs) (sym grown_it)
+      (adds_as (λ (x : Claim). x ≡ it) (IsPassAt nullable owner spot) old (old ++ it ∷ []) (λ x h. (symbol_is, before_is, e, h)) (λ x h. h.3) (adds_one old it))
+
+-- what one place adds is what is added at its number
+pub by_spot : (spots : List Spot) (i : ℕ) (spot : Spot) (P : Spot → Claim → Type 0) (old new : List Claim) → slice_get spots i ≡ Some spot → Adds (P spot) old new → Adds (λ claim. (s : Spot) × (slice_get spots i ≡ Some s) × P s claim) old new
+by_spot spots i spot P old new is h =
+    adds_as (P spot) (λ claim. (s : Spot) × (slice_get spots i ≡ Some s) × P s claim) old new (λ x k. (spot, is, k)) (λ x k. subst (λ (s : Spot). P s x) (same_Some k.0 spot (sym k.1 ∙ is)) k.2) h
+
+-- ---- the least that isn't covered
+
+module _ (cell : ℕ → Symbol → Slots) (xs : List Claim) (next : Claim) where
+  each : (P : Claim → Type 0) → ((x : Claim) → IsIn xs x → P x) → P next → (x : Claim) → IsIn (xs ++ next ∷ []) x → P x
+  each P before it x h = ⊎_elim (before x) (λ (k : x ≡ next). subst P (sym k) it) (in_parts xs next x h)
+
+  pub all_covered : AreClaimsCovered xs cell → covers (cell next.before next.symbol) next.stack ≡ true → AreClaimsCovered (xs ++ next ∷ []) cell
+  all_covered h e = each (λ x. covers (cell x.before x.symbol) x.stack ≡ true) h e
+
+  pub only_new : AreClaimsCovered xs cell → covers (cell next.before next.symbol) next.stack ≡ false → IsLeastClaim (xs ++ next ∷ []) cell next
+  only_new h e =
+      record {
+        waiting = in_last xs next next refl;
+        uncovered = e;
+        least = each (λ x. (covers (cell x.before x.symbol) x.stack ≡ true) ⊎ (IsBefore x.stack next.stack → ⊥)) (λ x k. inl (h x k)) (inr (before_not_itself next.stack));
+      }
+
+  module _ (p : Claim) (h : IsLeastClaim xs cell p) where
+    kept : (covers (cell next.before next.symbol) next.stack ≡ true) ⊎ (IsBefore next.stack p.stack → ⊥) → IsLeastClaim (xs ++ next ∷ []) cell p
+    kept e =
+        record {
+          waiting = in_still xs next p h.waiting;
+          uncovered = h.uncovered;
+          least = each (λ x. (covers (cell x.before x.symbol) x.stack ≡ true) ⊎ (IsBefore x.stack p.stack → ⊥)) h.least e;
+        }
+
+    pub kept_least : stack_lt next.stack p.stack ≡ false → IsLeastClaim (xs ++ next ∷ []) cell p
+    kept_least e = kept (inr (λ l. true≢false (sym l ∙ e)))
+
+    pub kept_uncovered : covers (cell next.before next.symbol) next.stack ≡ true → IsLeastClaim (xs ++ next ∷ []) cell p
+    kept_uncovered e = kept (inl e)
+
+    pub lesser_taken : stack_lt next.stack p.stack ≡ true → covers (cell next.before next.symbol) next.stack ≡ false → IsLeastClaim (xs ++ next ∷ []) cell next
+    lesser_taken l e =
+        record {
+          waiting = in_last xs next next refl;
+          uncovered = e;
+          least = each (λ x. (covers (cell x.before x.symbol) x.stack ≡ true) ⊎ (IsBefore x.stack next.stack → ⊥)) before (inr (before_not_itself next.stack));
+        }
+      where
+        before : (x : Claim) → IsIn xs x → (covers (cell x.before x.symbol) x.stack ≡ true) ⊎ (IsBefore x.stack next.stack → ⊥)
+        before x k = ⊎_elim (λ (c : covers (cell x.before x.symbol) x.stack ≡ true). inl c) (λ (n : IsBefore x.stack p.stack → ⊥). inr (λ m. n (before_trans x.stack next.stack p.stack m l))) (h.least x k)

@@ -1,0 +1,292 @@
+// The strings that wait to come into the cells of symbols: what the places of a grammar force there.
+
+ghost use Rattle.std.specs.Prelude.{◌≡◌, ◌<◌, ◌++◌, ◌∷◌, [], true, false, ◌+◌, ℕ, List, length, take, get_or, IfOk, OnOk, MatchOption};
+ghost use Rattle.grammar_file.specs.declared.symbols.Symbol.{Symbol as AnySymbol};
+ghost use Rattle.grammar_file.specs.declared.symbols.Symbol.TheVariants.{Terminal as AnyTerminal, Nonterminal as AnyNonterminal};
+ghost use Rattle.llp_tables.specs.Forced.{is_stop};
+ghost use Rattle.grammar_file.specs.Drive.{first_stack};
+ghost use Rattle.llp_tables.specs.Lookbacks.{cells_at};
+ghost use Rattle.llp_tables.specs.Slots.{covers};
+ghost use Rattle.llp_tables.specs.Tables.{stack_lt};
+ghost use Rattle.llp_wide.specs.Added.{Adds, SomeBelow};
+ghost use Rattle.llp_wide.specs.Claims.{Claim as AnyClaim, IsStopAt, IsStopIn, IsStopBy, IsFirstClaim, IsPassAt, IsPassOf, AreClaimsCovered, IsLeastClaim};
+
+use crate::places::Place;
+use grammar_file::{Grammar, Symbol};
+use llp_tables::{Members, all_vanish, is_before, starts};
+use std::alloc::{AllocError, Global};
+use std::marker::Model;
+
+/// A string that waits to come into the cell of a symbol before which a terminal is matched last.
+#[derive(Drop)]
+pub(crate) struct Waiting {
+    pub before: u16,
+    pub symbol: Symbol,
+    pub stack: Vec<Symbol>,
+}
+
+impl Model for Waiting {
+    ghost use Rattle.llp_wide.specs.Claims.{Claim};
+
+    ghost Value = { Claim };
+
+    ghost view = { λ w. record {
+      before = w.before;
+      symbol = w.symbol;
+      stack = w.stack.items;
+    } };
+}
+
+// Whether b may begin at symbol j of what stands behind a place.
+fn is_stop(nullable: &[bool], first: &[bool], b: u16, after: &[Symbol], j: usize) -> bool
+    requires { j < length after.now }
+    ensures { result ≡ is_stop nullable.now first.now b (take j after.now) (get_or after.now j (AnyTerminal 0)) }
+{
+    all_vanish(nullable, &after[..j]) && starts(first, b, after[j])
+}
+
+// Adds the front of `after` that ends with its symbol j, where b may begin there.
+fn add_stop(
+    alloc: Global,
+    nullable: &[bool],
+    first: &[bool],
+    b: u16,
+    after: &[Symbol],
+    before: u16,
+    symbol: Symbol,
+    j: usize,
+    waiting: &mut Vec<Waiting>,
+) -> Result<(), AllocError>
+    requires { j < length after.now }
+    ensures { IfOk result (λ u. Adds (IsStopAt nullable.now first.now b after.now before symbol j) waiting.old.items waiting.new.items) }
+{
+    if !is_stop(nullable, first, b, after, j) {
+        return Ok(());
+    }
+    let stack = Vec::from_slice(alloc, &after[..j + 1])?;
+    waiting.push(Waiting {
+        before,
+        symbol,
+        stack,
+    })?;
+    Ok(())
+}
+
+// Adds each front of `after` at whose last symbol b may begin.
+fn add_stops(
+    alloc: Global,
+    nullable: &[bool],
+    first: &[bool],
+    b: u16,
+    after: &[Symbol],
+    before: u16,
+    symbol: Symbol,
+    waiting: &mut Vec<Waiting>,
+) -> Result<(), AllocError>
+    ensures { IfOk result (λ u. Adds (IsStopIn nullable.now first.now b after.now before symbol) waiting.old.items waiting.new.items) }
+{
+    for j in 0..after.len() {
+        add_stop(alloc, nullable, first, b, after, before, symbol, j, waiting)?;
+    }
+    Ok(())
+}
+
+// Adds the stops behind all places.
+fn add_stops_of(
+    alloc: Global,
+    nullable: &[bool],
+    first: &[bool],
+    b: u16,
+    places: &[Place],
+    waiting: &mut Vec<Waiting>,
+) -> Result<(), AllocError>
+    ensures { IfOk result (λ u. Adds (SomeBelow (length places.now) (IsStopBy nullable.now first.now b places.now)) waiting.old.items waiting.new.items) }
+{
+    for i in 0..places.len() {
+        let place = &places[i];
+        let after = place.after.as_slice();
+        add_stops(
+            alloc,
+            nullable,
+            first,
+            b,
+            after,
+            place.before,
+            place.symbol,
+            waiting,
+        )?;
+    }
+    Ok(())
+}
+
+/// The strings that are forced into the cells while there is nothing in any.
+pub(crate) fn first_waiting(
+    alloc: Global,
+    grammar: &Grammar,
+    nullable: &[bool],
+    first: &[bool],
+    places: &[Place],
+    b: u16,
+) -> Result<Vec<Waiting>, AllocError>
+    ensures { IfOk result (λ v. Adds (IsFirstClaim nullable.now first.now b grammar.now places.now) [] v.items) }
+{
+    let text = [Symbol::Nonterminal(0), grammar.end_mark()];
+    let end = [grammar.end_mark()];
+    let mut waiting = Vec::new(alloc);
+    add_stops(
+        alloc,
+        nullable,
+        first,
+        b,
+        &text,
+        0,
+        Symbol::Terminal(0),
+        &mut waiting,
+    )?;
+    add_stops(
+        alloc,
+        nullable,
+        first,
+        b,
+        &end,
+        0,
+        Symbol::Nonterminal(0),
+        &mut waiting,
+    )?;
+    add_stops_of(alloc, nullable, first, b, places, &mut waiting)?;
+    Ok(waiting)
+}
+
+// Whether the place stands in a right side of the symbol, entered with that terminal matched last.
+fn is_owner(place: &Place, before: u16, symbol: Symbol) -> bool
+    ensures yes { result ≡ true → (symbol ≡ AnyNonterminal place.now.owner.nonterminal) × (before ≡ place.now.owner.before) }
+    ensures other { result ≡ false → (symbol ≡ AnyNonterminal place.now.owner.nonterminal) → (before ≡ place.now.owner.before) → ⊥ }
+{
+    match symbol {
+        Symbol::Terminal(_) => false,
+        Symbol::Nonterminal(a) => a == place.owner.nonterminal && before == place.owner.before,
+    }
+}
+
+// One string behind another.
+fn joined(alloc: Global, above: &[Symbol], below: &[Symbol]) -> Result<Vec<Symbol>, AllocError>
+    ensures { IfOk result (λ w. w.items ≡ above.now ++ below.now) }
+{
+    let mut w = Vec::from_slice(alloc, above)?;
+    w.extend_from_slice(below)?;
+    Ok(w)
+}
+
+// Adds what the place passes on of a string in the cell of its owner.
+fn add_pass(
+    alloc: Global,
+    nullable: &[bool],
+    place: &Place,
+    before: u16,
+    symbol: Symbol,
+    below: &[Symbol],
+    waiting: &mut Vec<Waiting>,
+) -> Result<(), AllocError>
+    ensures { IfOk result (λ u. Adds (IsPassAt nullable.now (record { before = before; symbol = symbol; stack = below.now }) place.now) waiting.old.items waiting.new.items) }
+{
+    if !is_owner(place, before, symbol) {
+        return Ok(());
+    }
+    if !all_vanish(nullable, place.after.as_slice()) {
+        return Ok(());
+    }
+    let stack = joined(alloc, place.after.as_slice(), below)?;
+    waiting.push(Waiting {
+        before: place.before,
+        symbol: place.symbol,
+        stack,
+    })?;
+    Ok(())
+}
+
+/// Adds what all places pass on of a string in a cell.
+pub(crate) fn add_passes(
+    alloc: Global,
+    nullable: &[bool],
+    places: &[Place],
+    before: u16,
+    symbol: Symbol,
+    below: &[Symbol],
+    waiting: &mut Vec<Waiting>,
+) -> Result<(), AllocError>
+    ensures { IfOk result (λ u. Adds (IsPassOf nullable.now (record { before = before; symbol = symbol; stack = below.now }) places.now) waiting.old.items waiting.new.items) }
+{
+    for i in 0..places.len() {
+        add_pass(alloc, nullable, &places[i], before, symbol, below, waiting)?;
+    }
+    Ok(())
+}
+
+/// Whether the symbol's cell has the string, or two of which none is greater.
+pub(crate) fn covers(classes: &[Members], before: u16, symbol: Symbol, w: &[Symbol]) -> bool
+    ensures { result ≡ covers (cells_at classes.now before symbol) w.now }
+{
+    match classes.get(before as usize) {
+        Some(members) => members.covers(symbol, w),
+        None => false,
+    }
+}
+
+// Whether the one string comes before the other.
+fn is_lesser(a: &Waiting, b: &Waiting) -> bool
+    ensures { result ≡ stack_lt a.now.stack b.now.stack }
+{
+    is_before(a.stack.as_slice(), b.stack.as_slice())
+}
+
+// Whether the string is covered by its cell.
+fn is_covered(classes: &[Members], waiting: &Waiting) -> bool
+    ensures { result ≡ covers (cells_at classes.now waiting.now.before waiting.now.symbol) waiting.now.stack }
+{
+    covers(
+        classes,
+        waiting.before,
+        waiting.symbol,
+        waiting.stack.as_slice(),
+    )
+}
+
+// The lesser of the least string so far and the next one, unless the cell of that one covers it.
+fn lesser<'a>(
+    classes: &[Members],
+    best: Option<&'a Waiting>,
+    next: &'a Waiting,
+) -> Option<&'a Waiting>
+    ensures { (xs : List AnyClaim) → MatchOption best.entry (AreClaimsCovered xs (cells_at classes.now)) (λ p. IsLeastClaim xs (cells_at classes.now) p.now) → MatchOption result (AreClaimsCovered (xs ++ next.now ∷ []) (cells_at classes.now)) (λ p. IsLeastClaim (xs ++ next.now ∷ []) (cells_at classes.now) p.now) }
+{
+    match best {
+        None => {
+            if is_covered(classes, next) {
+                None
+            } else {
+                Some(next)
+            }
+        }
+        Some(least) => {
+            if !is_lesser(next, least) {
+                return Some(least);
+            }
+            if is_covered(classes, next) {
+                Some(least)
+            } else {
+                Some(next)
+            }
+        }
+    }
+}
+
+/// The least string that waits and that no cell covers.
+pub(crate) fn least_waiting<'a>(classes: &[Members], waiting: &'a [Waiting]) -> Option<&'a Waiting>
+    ensures { MatchOption result (AreClaimsCovered waiting.now (cells_at classes.now)) (λ p. IsLeastClaim waiting.now (cells_at classes.now) p.now) }
+{
+    let mut best = None;
+    for i in 0..waiting.len() {
+        best = lesser(classes, best, &waiting[i]);
+    }
+    best
+}
