@@ -1,19 +1,18 @@
 -- Classes of cells in a list.
-use Rattle.std.proofs.Common.{◌≡◌, ◌≢◌, ℕ, zero, suc, ◌+◌, ◌<◌, ◌≤◌, ◌⊎◌, inl, inr, ⊎_elim, List, [], ◌∷◌, ◌++◌, length, set, length-set, get_or, Bool, true, false, eqb, eqb-true, eq-eqb, Some, slice_get, refl, sym, ap, ◌∙◌, subst, arith}
-use Rattle.std.proofs.lemmas.Bool.{cases_lt, true≢false}
-use Rattle.std.proofs.lemmas.Option.{same_Some, slice_get-get_or, slice_get_within}
+use Rattle.std.proofs.Common.{◌≡◌, ◌≢◌, ℕ, zero, suc, ◌+◌, ◌<◌, ◌⊎◌, inl, inr, List, [], ◌∷◌, length, set, length-set, Bool, true, false, eqb, eqb-true, eq-eqb, Some, slice_get, refl, sym, ap, ◌∙◌, subst, arith}
+use Rattle.std.proofs.lemmas.Bool.{true≢false}
+use Rattle.std.proofs.lemmas.Option.{same_Some, slice_get_within}
 use Rattle.grammar_file.specs.declared.symbols.Symbol.{Symbol}
 use Rattle.grammar_file.specs.declared.symbols.Symbol.TheVariants.{Terminal, Nonterminal}
-use Rattle.grammar_file.specs.Grammar.{Grammar, begin_mark, end_mark, IsSymbol, IsWellFormed}
+use Rattle.grammar_file.specs.Grammar.{Grammar, begin_mark, IsSymbol, IsWellFormed}
 use Rattle.llp_tables.specs.CellSlots.{cell_of, HasCell, room_of}
 use Rattle.llp_tables.specs.Lookbacks.{cells_in, cells_at}
-use Rattle.llp_tables.specs.Slots.{Empty, add, room}
+use Rattle.llp_tables.specs.Slots.{add, room}
 use Rattle.llp_tables.specs.declared.cells.Members.{Members}
 use Rattle.llp_tables.proofs.CellLists.{symbol_cases}
 use Rattle.llp_wide.specs.Claims.{Claim}
 use Rattle.llp_wide.specs.Classes.{HasWideCell, AreClasses, room_in, HasAdded}
 use Rattle.llp_wide.specs.WideBehind.{WideBehind, here, through, of_start, of_begin}
-use Rattle.llp_wide.proofs.SpotLists.{get_front, get_last}
 use Rattle.llp_wide.proofs.WideBounds.{place_below, place_symbol}
 
 get_set_same : (xs : List Members) (i : ℕ) (x : Members) → i < length xs → slice_get (set xs i x) i ≡ Some x

@@ -1,15 +1,14 @@
 -- Entrances that are found.
-use Rattle.std.proofs.Common.{◌≡◌, ◌≢◌, ℕ, zero, suc, ◌+◌, ◌*◌, ◌<◌, ◌≤◌, ◌⊎◌, inl, inr, ⊎_elim, List, [], ◌∷◌, ◌++◌, length, set, length-set, get_or, get_or-set_other, get_or-set_same, Bool, true, false, cond, eqb, eqb-true, eq-eqb, Some, slice_get, refl, sym, ap, ◌∙◌, subst, arith}
+use Rattle.std.proofs.Common.{◌≡◌, ◌≢◌, ℕ, zero, suc, ◌+◌, ◌*◌, ◌<◌, ◌≤◌, ◌⊎◌, inl, inr, ⊎_elim, List, [], ◌∷◌, ◌++◌, length, set, length-set, get_or, get_or-set_other, get_or-set_same, Bool, true, false, eqb, eqb-true, eq-eqb, Some, slice_get, refl, sym, ap, ◌∙◌, subst, arith}
 use Rattle.std.proofs.Math.Nat.{mul-le-mul_left}
 use Rattle.std.proofs.lemmas.Bool.{cases_lt, true≢false}
 use Rattle.std.proofs.lemmas.List.{length-append}
 use Rattle.std.proofs.lemmas.Option.{slice_get-get_or, same_Some}
-use Rattle.grammar_file.specs.declared.symbols.Symbol.{Symbol}
 use Rattle.grammar_file.specs.declared.symbols.Symbol.TheVariants.{Terminal, Nonterminal}
 use Rattle.llp_wide.specs.declared.places.Entrance.{Entrance}
 use Rattle.llp_wide.specs.Added.{IsIn, SomeBelow}
 use Rattle.llp_wide.specs.Places.{Spot}
-use Rattle.llp_wide.specs.Surveys.{place_of, IsFound, unfound, Finds, Opens, OpensIn}
+use Rattle.llp_wide.specs.Surveys.{place_of, IsFound, unfound, Finds, Opens}
 use Rattle.llp_wide.proofs.Additions.{in_parts, in_still, in_last}
 
 pub within_product : (w n a b : ℕ) → a < w → b < n → a * n + b < w * n

@@ -1,11 +1,10 @@
 -- LAST by marks, and what is matched last behind a form.
-use Rattle.std.proofs.Common.{◌≡◌, ℕ, zero, suc, ◌+◌, ◌<◌, ◌⊎◌, inl, inr, ⊎_elim, List, [], ◌∷◌, ◌++◌, length, get_or, Bool, true, false, ◌&&◌, ◌||◌, ◌==◌, eqb-true, eq-eqb, Some, refl, sym, ap, ◌∙◌, subst, append-nil, append_assoc, arith}
-use Rattle.std.specs.List.{AllByRecursion}
+use Rattle.std.proofs.Common.{◌≡◌, ℕ, suc, ◌<◌, ◌⊎◌, inl, inr, List, [], ◌∷◌, ◌++◌, length, get_or, Bool, true, false, ◌&&◌, ◌||◌, ◌==◌, eqb-true, eq-eqb, Some, refl, sym, ap, ◌∙◌, subst, append-nil, append_assoc}
 use Rattle.std.proofs.lemmas.List.Folds.{list_all-append}
 use Rattle.std.proofs.lemmas.Option.{same_Some}
 use Rattle.grammar_file.specs.declared.symbols.Symbol.{Symbol}
 use Rattle.grammar_file.specs.declared.symbols.Symbol.TheVariants.{Terminal, Nonterminal}
-use Rattle.grammar_file.specs.Grammar.{Grammar, Production, production, IsSymbol, IsWellFormed}
+use Rattle.grammar_file.specs.Grammar.{Grammar, IsWellFormed}
 use Rattle.grammar_file.specs.Derivation.{Derives, word_form}
 use Rattle.grammar_file.specs.Drive.{Rule}
 use Rattle.grammar_file.specs.Marks.{AreMarksOf}
@@ -13,7 +12,7 @@ use Rattle.grammar_file.specs.Spelling.{IsReduced}
 use Rattle.grammar_file.proofs.Derives.{derives_step, derives_both, derives_terminal, behind_terminal, first_step, derives_nil}
 use Rattle.grammar_file.proofs.Forms.{Ours, word_of}
 use Rattle.grammar_file.proofs.Marks.{IsTurn}
-use Rattle.grammar_file.proofs.Words.{same_head, same_tail, same_terminal, nil-cons, nonterminal-word, word-append, same_word}
+use Rattle.grammar_file.proofs.Words.{same_head, same_tail, same_terminal, nil-cons, nonterminal-word}
 use Rattle.llp_tables.specs.Predict.{IsNullable}
 use Rattle.llp_tables.specs.Marking.{vanishes, all_vanish, starts, IsNextBy, IsClosedBy}
 use Rattle.llp_tables.proofs.FormTests.{both, and, either, or_left, or_right, marking_turn, rule_of, Nullable, vanishing, vanishes_exactly, closed_by}

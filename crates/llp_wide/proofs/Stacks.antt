@@ -1,11 +1,11 @@
 -- The stacks of a leftmost derivation of a text between two begin marks and an end mark.
-use Rattle.std.proofs.Common.{◌≡◌, ℕ, ◌⊎◌, inl, inr, ⊎_elim, List, [], ◌∷◌, ◌++◌, Some, sym, refl, ap, ◌∙◌, subst, append_assoc, append-nil}
+use Rattle.std.proofs.Common.{◌≡◌, ℕ, List, [], ◌∷◌, ◌++◌, Some, sym, refl, ap, subst, append_assoc, append-nil}
 use Rattle.grammar_file.specs.declared.symbols.Symbol.{Symbol}
 use Rattle.grammar_file.specs.declared.symbols.Symbol.TheVariants.{Terminal, Nonterminal}
-use Rattle.grammar_file.specs.Grammar.{Grammar, Production, production, begin_mark, end_mark, whole}
+use Rattle.grammar_file.specs.Grammar.{Grammar, begin_mark, whole}
 use Rattle.grammar_file.specs.Derivation.{Derives, word_form, FirstReaches}
-use Rattle.grammar_file.specs.Drive.{Rule, Reads, Drives, first_stack}
-use Rattle.grammar_file.proofs.Words.{same_head, same_tail, same_terminal, terminal-nonterminal, nil-cons, word-append, word-cons, nonterminal-word}
+use Rattle.grammar_file.specs.Drive.{Rule, Reads, Drives}
+use Rattle.grammar_file.proofs.Words.{same_head, same_tail, same_terminal, terminal-nonterminal, nil-cons, word-cons, nonterminal-word}
 use Rattle.grammar_file.proofs.Derives.{first_step, derives_nil, derives_terminal, behind_terminal, derives_step, derives_on}
 use Rattle.grammar_file.proofs.Drives.{drives_first, drives_on, drives_split, drives_derives, first_of_drives, drives_of_first}
 use Rattle.llp_tables.specs.Lookback.{IsStackAfter}

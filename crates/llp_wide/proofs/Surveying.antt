@@ -1,12 +1,12 @@
 -- Right sides that are walked from the start on give all places.
-use Rattle.std.proofs.Common.{◌≡◌, ℕ, zero, suc, ◌+◌, ◌*◌, ◌<◌, ◌⊎◌, inl, inr, ⊎_elim, List, [], ◌∷◌, ◌++◌, length, take, drop, get_or, Bool, true, false, Some, slice_get, refl, sym, ap, ◌∙◌, subst, append_assoc, arith}
+use Rattle.std.proofs.Common.{◌≡◌, ℕ, zero, suc, ◌+◌, ◌*◌, ◌<◌, ◌⊎◌, inl, inr, ⊎_elim, List, [], ◌∷◌, ◌++◌, length, take, drop, get_or, Bool, true, false, Some, slice_get, refl, sym, ap, ◌∙◌, subst, arith}
 use Rattle.std.specs.List.{AllByRecursion}
 use Rattle.std.proofs.Math.Seq.{take-append_seam}
 use Rattle.std.proofs.lemmas.Bool.{true≢false}
 use Rattle.std.proofs.lemmas.Option.{none-some, slice_get_within}
 use Rattle.grammar_file.specs.declared.symbols.Symbol.{Symbol}
 use Rattle.grammar_file.specs.declared.symbols.Symbol.TheVariants.{Terminal, Nonterminal}
-use Rattle.grammar_file.specs.Grammar.{Grammar, Production, production, begin_mark, end_mark, whole, IsSymbol, IsWellFormed}
+use Rattle.grammar_file.specs.Grammar.{Grammar, production, begin_mark, end_mark, whole, IsSymbol, IsWellFormed}
 use Rattle.grammar_file.specs.Drive.{Rule, first_stack}
 use Rattle.grammar_file.specs.Marks.{AreMarksOf}
 use Rattle.grammar_file.specs.Spelling.{IsReduced}
@@ -15,7 +15,7 @@ use Rattle.llp_tables.proofs.FollowMarks.{parts_of, symbol_at, rest_at}
 use Rattle.llp_tables.proofs.FormTests.{Nullable}
 use Rattle.llp_wide.specs.declared.endings.LastMarks.{LastMarks}
 use Rattle.llp_wide.specs.declared.places.Entrance.{Entrance}
-use Rattle.llp_wide.specs.Added.{IsIn, Adds, SomeBelow}
+use Rattle.llp_wide.specs.Added.{IsIn, Adds}
 use Rattle.llp_wide.specs.Endings.{is_ending, marks_at, AreEndings}
 use Rattle.llp_wide.specs.Places.{Spot, IsSpotAt, IsSpotUnder, AreSpots}
 use Rattle.llp_wide.specs.Surveys.{place_of, IsFound, Finds, Opens, OpensIn, HaveRoom}
@@ -24,8 +24,8 @@ use Rattle.llp_wide.proofs.Additions.{in_parts}
 use Rattle.llp_wide.proofs.Finding.{within_product, in_at, at_in}
 use Rattle.llp_wide.proofs.LastSets.{ending_is, ending_tests}
 use Rattle.llp_wide.proofs.Stacks.{Stands, stands_first, stands_match, entered_of_stands, stands_of_entered}
-use Rattle.llp_wide.proofs.WideBounds.{entered_below, place_below, place_symbol, front_all}
-use Rattle.llp_wide.proofs.WideRules.{Ruled, ruled_stands, at_place, ending_none, ending_mark}
+use Rattle.llp_wide.proofs.WideBounds.{place_below, place_symbol, front_all}
+use Rattle.llp_wide.proofs.WideRules.{Ruled, ruled_stands, at_place, ending_mark}
 
 abbrev pub start : Entrance
 start = record { before = 0; nonterminal = 0 }

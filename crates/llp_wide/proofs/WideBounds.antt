@@ -1,16 +1,15 @@
 -- The terminals that can be matched.
-use Rattle.std.proofs.Common.{◌≡◌, ℕ, ◌+◌, ◌<◌, List, [], ◌∷◌, ◌++◌, length, Some, refl, sym, ap, ◌∙◌, subst, arith}
+use Rattle.std.proofs.Common.{◌≡◌, ℕ, ◌+◌, ◌<◌, List, [], ◌∷◌, ◌++◌, length, Some, sym, subst, arith}
 use Rattle.std.specs.List.{AllByRecursion}
 use Rattle.std.proofs.lemmas.Option.{same_Some}
 use Rattle.grammar_file.specs.declared.symbols.Symbol.{Symbol}
 use Rattle.grammar_file.specs.declared.symbols.Symbol.TheVariants.{Terminal, Nonterminal}
-use Rattle.grammar_file.specs.Grammar.{Grammar, Production, production, begin_mark, end_mark, whole, IsSymbol, IsWellFormed}
+use Rattle.grammar_file.specs.Grammar.{Grammar, Production, production, end_mark, IsSymbol, IsWellFormed}
 use Rattle.grammar_file.specs.Derivation.{Derives, word_form}
-use Rattle.grammar_file.specs.Drive.{Rule}
 use Rattle.grammar_file.proofs.Derives.{behind_terminal, first_step, derives_nil}
 use Rattle.grammar_file.proofs.Words.{nil-cons}
 use Rattle.llp_wide.specs.Wide.{wide_whole}
-use Rattle.llp_wide.specs.WideBehind.{last_behind, IsEnding, IsEntered, IsWidePlace}
+use Rattle.llp_wide.specs.WideBehind.{last_behind, IsEntered, IsWidePlace}
 
 pub front_all : (P : Symbol → Type 0) (u v : List Symbol) → AllByRecursion P (u ++ v) → AllByRecursion P u
 front_all P [] v h = tt

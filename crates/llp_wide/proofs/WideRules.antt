@@ -1,13 +1,12 @@
 -- PSLS with two terminals of look-back by derivations and by rules are the same.
-use Rattle.std.proofs.Common.{◌≡◌, ℕ, ◌⊎◌, inl, inr, ⊎_elim, List, [], ◌∷◌, ◌++◌, Some, sym, refl, ap, ◌∙◌, subst, append_assoc, append-nil}
+use Rattle.std.proofs.Common.{◌≡◌, ℕ, ⊎_elim, List, [], ◌∷◌, ◌++◌, Some, sym, refl, ap, ◌∙◌, subst, append_assoc, append-nil}
 use Rattle.grammar_file.specs.declared.symbols.Symbol.{Symbol}
 use Rattle.grammar_file.specs.declared.symbols.Symbol.TheVariants.{Terminal, Nonterminal}
-use Rattle.grammar_file.specs.Grammar.{Grammar, Production, production, begin_mark, end_mark, whole}
-use Rattle.grammar_file.specs.Derivation.{Derives, word_form, FirstReaches}
-use Rattle.grammar_file.specs.Drive.{Rule, Reads, Drives, first_stack}
-use Rattle.grammar_file.proofs.Words.{same_head, same_tail, same_terminal, terminal-nonterminal, nil-cons, word-cons}
+use Rattle.grammar_file.specs.Grammar.{Grammar, begin_mark, end_mark, whole}
+use Rattle.grammar_file.specs.Derivation.{Derives, word_form}
+use Rattle.grammar_file.specs.Drive.{Rule, Drives, first_stack}
+use Rattle.grammar_file.proofs.Words.{same_head, same_tail, nil-cons, word-cons}
 use Rattle.grammar_file.proofs.Derives.{derives_step, derives_terminal, behind_terminal, derives_nil}
-use Rattle.grammar_file.proofs.Drives.{drives_of_first}
 use Rattle.llp_tables.specs.Slots.{Slots, Empty, One, Two}
 use Rattle.llp_tables.specs.LeastMembers.{KeepsLeast}
 use Rattle.llp_tables.specs.Lookback.{BeginsAtLast, IsLookback, IsLlp}

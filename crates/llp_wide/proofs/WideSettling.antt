@@ -1,16 +1,13 @@
 -- Cells that fill up from the least string on, for each terminal that is matched last before a symbol.
-use Rattle.std.proofs.Common.{◌≡◌, ◌≢◌, ℕ, suc, ◌+◌, ◌<◌, ◌⊎◌, inl, inr, ⊎_elim, List, [], ◌∷◌, ◌++◌, length, take, drop, Bool, true, false, ◌&&◌, Some, slice_get, refl, sym, ap, ◌∙◌, subst, append-nil, arith}
+use Rattle.std.proofs.Common.{◌≡◌, ℕ, suc, ◌⊎◌, inl, inr, ⊎_elim, List, [], ◌∷◌, ◌++◌, length, Bool, true, Some, refl, sym, ap, ◌∙◌, subst, append-nil}
 use Rattle.std.proofs.lemmas.Bool.{true≢false}
-use Rattle.std.proofs.lemmas.Option.{slice_get_within}
 use Rattle.grammar_file.specs.declared.symbols.Symbol.{Symbol}
 use Rattle.grammar_file.specs.declared.symbols.Symbol.TheVariants.{Terminal, Nonterminal}
 use Rattle.grammar_file.specs.Grammar.{Grammar, begin_mark, end_mark}
 use Rattle.grammar_file.specs.Drive.{first_stack}
 use Rattle.grammar_file.specs.Marks.{AreMarksOf}
 use Rattle.llp_tables.specs.Cells.{IsBefore, IsCovered}
-use Rattle.llp_tables.specs.Forced.{IsStop}
 use Rattle.llp_tables.specs.Lookback.{BeginsAtLast}
-use Rattle.llp_tables.specs.Marking.{all_vanish}
 use Rattle.llp_tables.specs.Slots.{Slots, Empty, Holds, AreInOrder, covers, add, room}
 use Rattle.llp_tables.proofs.Filling.{covers_is, covers_more, add_holds, add_ordered, add_room, up_to, keeps_least}
 use Rattle.llp_tables.proofs.Forcing.{stop_begins, stop_of}
@@ -18,10 +15,10 @@ use Rattle.llp_tables.proofs.FormTests.{Nullable, First, vanishing, vanishes_exa
 use Rattle.llp_tables.proofs.Rules.{one_end}
 use Rattle.llp_tables.proofs.StackOrder.{before_not_itself, not_before_front}
 use Rattle.llp_tables.proofs.TwoLeast.{covered_pass}
-use Rattle.llp_wide.specs.Added.{IsIn, Adds, SomeBelow}
-use Rattle.llp_wide.specs.Claims.{Claim, IsStopAt, IsStopIn, IsStopBy, IsFirstClaim, IsPassAt, IsPassOf, AreClaimsCovered, IsLeastClaim, AreLeastWide}
+use Rattle.llp_wide.specs.Added.{IsIn, Adds}
+use Rattle.llp_wide.specs.Claims.{Claim, IsStopIn, IsFirstClaim, IsPassOf, AreClaimsCovered, IsLeastClaim, AreLeastWide}
 use Rattle.llp_wide.specs.Places.{Spot, AreSpots}
-use Rattle.llp_wide.specs.WideBehind.{IsWidePlace, WideBehind, here, through, of_start, of_begin}
+use Rattle.llp_wide.specs.WideBehind.{WideBehind, here, through, of_start, of_begin}
 use Rattle.llp_wide.proofs.Finding.{in_at, at_in}
 
 module _ (g : Grammar) (nullable first : List Bool) (b : ℕ) (spots : List Spot) where

@@ -1,11 +1,10 @@
 -- Where symbols stand in right sides, with the terminal that is matched last before them and before the right side.
 use Rattle.std.specs.Prelude.{◌≡◌, ℕ, ◌+◌, List, Bool, true, length, take, drop, Some, slice_get}
 use Rattle.grammar_file.specs.declared.symbols.Symbol.{Symbol}
-use Rattle.grammar_file.specs.declared.symbols.Symbol.TheVariants.{Terminal, Nonterminal}
 use Rattle.grammar_file.specs.Grammar.{Grammar, Production}
 use Rattle.llp_wide.specs.declared.endings.LastMarks.{LastMarks}
 use Rattle.llp_wide.specs.declared.places.Entrance.{Entrance}
-use Rattle.llp_wide.specs.WideBehind.{IsWidePlace, IsEntered}
+use Rattle.llp_wide.specs.WideBehind.{IsWidePlace}
 use Rattle.llp_wide.specs.Endings.{is_ending, marks_at}
 use Rattle.llp_wide.specs.Added.{IsIn, SomeBelow}
 

@@ -1,4 +1,4 @@
-use Rattle.std.proofs.Common.{◌≡◌, ◌++◌, ◌∷◌, [], ℕ, List, Bool, true, sym, ap, subst, ◌∙◌}
+use Rattle.std.proofs.Common.{◌≡◌, ◌++◌, ◌∷◌, [], List, true, sym, ap, ◌∙◌}
 use Rattle.grammar_file.specs.declared.symbols.Symbol.{Symbol}
 use Rattle.llp_tables.specs.Marking.{all_vanish}
 use Rattle.llp_wide.specs.Claims.{Claim}

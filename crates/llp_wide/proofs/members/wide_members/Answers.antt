@@ -1,4 +1,3 @@
-use Rattle.std.proofs.Common.{List}
 use Rattle.std.proofs.lemmas.Result.{IfOk-weaker}
 use Rattle.grammar_file.specs.declared.symbols.Symbol.TheVariants.{Terminal}
 use Rattle.llp_tables.specs.Lookbacks.{cells_at}

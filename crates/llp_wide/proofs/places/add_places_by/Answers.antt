@@ -2,7 +2,6 @@ use Rattle.std.proofs.Common.{List, Some, sym, ap, ◌∙◌, subst}
 use Rattle.std.proofs.lemmas.Option.{slice_get-get_or}
 use Rattle.std.proofs.lemmas.Result.{IfOk-weaker}
 use Rattle.grammar_file.specs.declared.symbols.Symbol.{Symbol}
-use Rattle.grammar_file.specs.Grammar.{Production}
 use Rattle.llp_wide.specs.Added.{Adds}
 use Rattle.llp_wide.specs.Places.{IsSpotIn}
 use Rattle.llp_wide.proofs.SpotLists.{own_rule}

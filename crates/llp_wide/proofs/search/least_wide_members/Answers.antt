@@ -1,9 +1,9 @@
-use Rattle.std.proofs.Common.{◌≡◌, ◌+◌, ℕ, List, length, sym, subst, ◌∙◌}
+use Rattle.std.proofs.Common.{◌+◌, ℕ, List, length, sym, subst}
 use Rattle.llp_tables.specs.Lookbacks.{cells_at}
 use Rattle.llp_tables.specs.declared.cells.Members.{Members}
 use Rattle.llp_wide.specs.Added.{Adds}
 use Rattle.llp_wide.specs.Claims.{Claim, IsPassOf, IsLeastClaim, AreClaimsCovered}
-use Rattle.llp_wide.specs.Classes.{AreClasses, HasWideCell}
+use Rattle.llp_wide.specs.Classes.{AreClasses}
 use Rattle.llp_wide.proofs.ClassLists.{behind_has_cell, wide_room_less}
 use Rattle.llp_wide.proofs.WideSettling.{wide_settling_start, wide_settling_on, wide_settled, wide_room_left}
 use Rattle.llp_wide.proofs.search.least_wide_members.Goals as goal

@@ -1,4 +1,4 @@
-use Rattle.std.proofs.Common.{◌≡◌, ◌+◌, ◌*◌, List, true, false, set, sym, subst, ◌∙◌}
+use Rattle.std.proofs.Common.{◌≡◌, List, true, false, set, sym, subst, ◌∙◌}
 use Rattle.llp_wide.specs.declared.places.Entrance.{Entrance}
 use Rattle.llp_wide.specs.Surveys.{Finds, place_of}
 use Rattle.llp_wide.proofs.Finding.{finds_new, other_default}

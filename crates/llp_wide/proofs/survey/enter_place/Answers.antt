@@ -1,7 +1,6 @@
-use Rattle.std.proofs.Common.{◌≡◌, ◌<◌, length, ap, refl, sym, subst, ◌∙◌}
+use Rattle.std.proofs.Common.{◌≡◌, ap, refl, sym, ◌∙◌}
 use Rattle.grammar_file.specs.declared.symbols.Symbol.TheVariants.{Nonterminal}
 use Rattle.llp_wide.specs.Places.{Spot}
-use Rattle.llp_wide.specs.Surveys.{place_of}
 use Rattle.llp_wide.proofs.survey.enter_place.Goals as goal
 
 pub enter-requires-clause-nonterminal : goal.enter-requires-clause-nonterminal

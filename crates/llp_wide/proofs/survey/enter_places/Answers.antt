@@ -1,8 +1,7 @@
-use Rattle.std.proofs.Common.{◌≡◌, ◌<◌, ℕ, length, subst, sym, Some, ap, ◌∙◌, slice_get}
+use Rattle.std.proofs.Common.{◌≡◌, ◌<◌, subst, sym, Some, ap, ◌∙◌, slice_get}
 use Rattle.std.proofs.lemmas.Option.{slice_get-get_or, same_Some}
-use Rattle.llp_wide.specs.declared.places.Entrance.{Entrance}
 use Rattle.llp_wide.specs.Places.{Spot}
-use Rattle.llp_wide.specs.Surveys.{Finds, Opens, OpensIn, place_of}
+use Rattle.llp_wide.specs.Surveys.{Opens, place_of}
 use Rattle.llp_wide.proofs.Finding.{finds_next, finds_as, in_at}
 use Rattle.llp_wide.proofs.survey.enter_places.Goals as goal
 
