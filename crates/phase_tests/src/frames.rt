@@ -1,5 +1,5 @@
 //! Worked depths and frames.
-ghost use Rattle.std.specs.Prelude.{◌≡◌, ◌≤◌, ◌<◌, ℕ, true, length, slice_index_or};
+ghost use Rattle.std.specs.Prelude.{◌≤◌};
 
 use ast_rows::Rows;
 use chunk_seats::{Gate, OpenGate, Plan};

@@ -1,5 +1,4 @@
 //! Worked names, and each fault of scope.
-ghost use Rattle.std.specs.Prelude.{◌≡◌, ◌≤◌, ◌<◌, ◌^◌, ℕ, true, length, slice_index_or};
 
 use ast_rows::{Names, Rows, Tokens};
 use chunk_seats::{Gate, OpenGate, Plan};

@@ -1,5 +1,4 @@
 //! Worked types, and faults of typing.
-ghost use Rattle.std.specs.Prelude.{◌≡◌, ◌≤◌, ◌<◌, ℕ, true, length, slice_index_or};
 
 use ast_rows::{Names, Rows, Types};
 use chunk_seats::{Gate, OpenGate, Plan};
