@@ -1,12 +1,13 @@
 //! Where the subtrees of rows begin, and how many children rows have, looked for one by one.
-ghost use Rattle.std.specs.Prelude.{◌≡◌, ℕ, ◌<◌, ◌≤◌, ◌&&◌, ◌^◌, true, length, nat_lt, nat_le, slice_index_or, IfOk};
-ghost use Rattle.ast_rows.specs.NodeRows.{count_at, counts_of, low_at, lows_of};
+ghost use Rattle.std.specs.Prelude.{◌≡◌, ℕ, ◌<◌, ◌≤◌, ◌&&◌, ◌^◌, true, false, length, nat_lt, nat_le, slice_index_or, IfOk};
+ghost use Rattle.ast_rows.specs.NodeRows.{GoUp, count_at, counts_of, low_at, lows_of};
 
 use std::alloc::{AllocError, Global};
 
 /// Whether no parent stands before its row.
 pub(crate) fn goes_up(parents: &[u32]) -> bool
-    ensures { result ≡ true → (i : ℕ) → i < length parents.now → i ≤ slice_index_or parents.now i 0 }
+    ensures all { result ≡ true → GoUp parents.now }
+    ensures some { result ≡ false → ¬ GoUp parents.now }
 {
     for k in 0..parents.len() {
         if (parents[k] as usize) < k {

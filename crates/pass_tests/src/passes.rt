@@ -1,10 +1,10 @@
 //! Passes, for every kind of plan, and who works on them.
-ghost use Rattle.std.specs.Prelude.{◌≡◌, ◌<◌, ◌≤◌, ◌^◌, ◌/◌, length, map, IfOk};
+ghost use Rattle.std.specs.Prelude.{◌<◌, ◌≤◌, ◌^◌, ◌/◌, length, map};
 
 use crate::callers::{copies, crew};
 use chunk_seats::{Gate, Plan};
 use par_passes::{Lift, Passes, Workers};
-use std::alloc::{AllocError, Global};
+use std::alloc::Global;
 use std::process::Abort;
 use std::sync::atomic::{AtomicU64, Ordering};
 use std::test::*;

@@ -1,5 +1,5 @@
 //! Worked programs: the sizes and places of their pieces and their words, for every kind of plan.
-ghost use Rattle.std.specs.Prelude.{◌≡◌, ◌≤◌, ◌<◌, ◌^◌, ℕ, true, length, slice_index_or, IfOk};
+ghost use Rattle.std.specs.Prelude.{◌≡◌, ◌≤◌, ◌<◌, ◌^◌, length, IfOk};
 ghost use Rattle.source_meaning.specs.Ast.{Program as Source};
 ghost use Rattle.ast_rows.specs.NodeRows.{rows_from};
 ghost use Rattle.rv_emit.specs.Compilable.{IsCompilable};

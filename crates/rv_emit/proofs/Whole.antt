@@ -1,8 +1,8 @@
 -- The columns that are made of what the passes before have found are columns of an accepted program.
 use Rattle.std.proofs.Common.{◌≡◌, inl, inr, ℕ, zero, suc, ◌+◌, ◌<◌, ◌≤◌, Bool, true, false, All, List, [], ◌∷◌, length, map, min, get_or, Option, Some, None, refl, sym, ap, subst, ◌∙◌, arith}
-use Rattle.std.specs.Prelude.{◌==◌, nat_lt, nat_eq, if◌then◌else◌}
+use Rattle.std.specs.Prelude.{nat_eq, if◌then◌else◌}
 use Rattle.std.specs.List.{range_with_len}
-use Rattle.std.proofs.lemmas.Bool.{cases_lt, eqb-true, and_parts, ltb-true}
+use Rattle.std.proofs.lemmas.Bool.{cases_lt, eqb-true}
 use Rattle.std.proofs.lemmas.List.{get_or-map, get_or_past, length-map}
 use Rattle.std.proofs.lemmas.List.FromFn.{get_or-map-range_with_len}
 use Rattle.source_meaning.specs.declared.kinds.Kind.{Kind}
@@ -13,7 +13,7 @@ use Rattle.source_meaning.specs.Frames.{Frame as FrameRow, frame, frame_for}
 use Rattle.ast_rows.specs.NameRows.{NameRows, row_word, row_of_word}
 use Rattle.ast_rows.specs.NodeRows.{low_at, lows_of, parent_numbers}
 use Rattle.row_rules.specs.Alignment.{IsNamedProgram}
-use Rattle.row_rules.specs.Visible.{row_at, no_row, site_at}
+use Rattle.row_rules.specs.Visible.{no_row, site_at}
 use Rattle.row_rules.specs.Steps.{is_assign, kind_at}
 use Rattle.row_rules.proofs.Shaped.{program_named}
 use Rattle.typing_rules.specs.Columns.{first_of, IsFirstChild}
@@ -29,11 +29,11 @@ use Rattle.rv_select.specs.Knowns.{frame_of}
 use Rattle.rv_select.specs.Accepted.{IsAccepted}
 use Rattle.rv_select.specs.Functions.{function_numbers, function_rows}
 use Rattle.rv_select.proofs.Functions.{numbers_are, ends_are, ends_many}
-use Rattle.rv_select.proofs.OfProgram.{get_map, get_parent, number_le, frame_get}
+use Rattle.rv_select.proofs.OfProgram.{get_map, number_le, frame_get}
 use Rattle.rv_emit.specs.Counted.{narrowed}
 use Rattle.rv_emit.specs.Meanings.{meant_in, number_at}
 use Rattle.rv_emit.specs.Compilable.{IsCompilable}
-use Rattle.rv_emit.proofs.Placed.{all_by, narrow_get}
+use Rattle.rv_emit.proofs.Placed.{narrow_get}
 
 pub parents_many : (rs : List Row) (i : ℕ) → length (parent_numbers i rs) ≡ length rs
 parents_many [] i = refl

@@ -1,6 +1,4 @@
-use Rattle.std.proofs.Common.{◌≡◌, ℕ, List, length, map, get_or, None, sym, ap, subst, ◌∙◌, arith}
-use Rattle.source_meaning.specs.Rows.{Row}
-use Rattle.ast_rows.specs.NodeRows.{parent_numbers}
+use Rattle.std.proofs.Common.{get_or, None}
 use Rattle.rv_emit.proofs.Whole.{Made, accepted_main}
 use Rattle.rv_emit.proofs.unit.code_columns.Goals as goal
 
