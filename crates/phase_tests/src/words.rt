@@ -3,7 +3,7 @@ ghost use Rattle.std.specs.Prelude.{◌≡◌, ◌≤◌, ◌<◌, ◌^◌, leng
 ghost use Rattle.source_meaning.specs.Ast.{Program as Source};
 ghost use Rattle.ast_rows.specs.NodeRows.{rows_from};
 ghost use Rattle.rv_emit.specs.Compilable.{IsCompilable};
-ghost use Rattle.rv_emit.specs.Worked.{seven as seven_program, counting as counting_program};
+ghost use Rattle.phase_tests.specs.Worked.{seven as seven_program, counting as counting_program};
 
 use ast_rows::{Names, Rows};
 use chunk_seats::{Gate, OpenGate, Plan};

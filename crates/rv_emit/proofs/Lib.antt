@@ -5,4 +5,3 @@ mod Placed
 mod Whole
 mod Sized
 mod Ready
-mod Worked

@@ -6,8 +6,8 @@ use Rattle.ast_rows.specs.NodeRows.{rows_from}
 use Rattle.ast_rows.specs.NameRows.{NameRows, row_of_word}
 use Rattle.rv_regs.specs.FrameRows.{frame_of}
 use Rattle.rv_emit.specs.Compilable.{IsCompilable}
-use Rattle.rv_emit.specs.Worked.{counting, counting_names}
-use Rattle.rv_emit.proofs.Worked.{counting_compilable}
+use Rattle.phase_tests.specs.Worked.{counting, counting_names}
+use Rattle.phase_tests.proofs.Worked.{counting_compilable}
 use Rattle.phase_tests.proofs.words.counting.Goals as goal
 
 pub returns : goal.returns

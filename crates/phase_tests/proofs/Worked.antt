@@ -13,7 +13,7 @@ use Rattle.code_rules.specs.Reach.{IsSmall}
 use Rattle.code_rules.specs.RowTables.{frame_in}
 use Rattle.ast_rows.specs.NameRows.{NameRows}
 use Rattle.rv_emit.specs.Compilable.{IsCompilable}
-use Rattle.rv_emit.specs.Worked.{counting, counting_names}
+use Rattle.phase_tests.specs.Worked.{counting, counting_names}
 
 -- something of each number below n
 abbrev Each : (ℕ → Type 0) → ℕ → Type 0
