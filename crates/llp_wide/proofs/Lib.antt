@@ -1,3 +1,4 @@
+pub mod SameSymbols
 pub mod Stacks
 pub mod WideRules
 pub mod LastSets
@@ -9,3 +10,5 @@ pub mod Surveying
 pub mod ClaimLists
 pub mod WideSettling
 pub mod ClassLists
+pub mod Conflicting
+pub mod TripleLists

@@ -1,5 +1,5 @@
 -- Cells that fill up from the least string on, for each terminal that is matched last before a symbol.
-use Rattle.std.proofs.Common.{◌≡◌, ℕ, suc, ◌⊎◌, inl, inr, ⊎_elim, List, [], ◌∷◌, ◌++◌, length, Bool, true, Some, refl, sym, ap, ◌∙◌, subst, append-nil}
+use Rattle.std.proofs.Common.{◌≡◌, ℕ, suc, ◌⊎◌, inl, inr, ⊎_elim, List, [], ◌∷◌, ◌++◌, length, Bool, true, false, Some, refl, sym, ap, ◌∙◌, subst, append-nil}
 use Rattle.std.proofs.lemmas.Bool.{true≢false}
 use Rattle.grammar_file.specs.declared.symbols.Symbol.{Symbol}
 use Rattle.grammar_file.specs.declared.symbols.Symbol.TheVariants.{Terminal, Nonterminal}
@@ -18,20 +18,13 @@ use Rattle.llp_tables.proofs.TwoLeast.{covered_pass}
 use Rattle.llp_wide.specs.Added.{IsIn, Adds}
 use Rattle.llp_wide.specs.Claims.{Claim, IsStopIn, IsFirstClaim, IsPassOf, AreClaimsCovered, IsLeastClaim, AreLeastWide}
 use Rattle.llp_wide.specs.Places.{Spot, AreSpots}
+use Rattle.llp_wide.specs.Settling.{IsWideSettling}
 use Rattle.llp_wide.specs.WideBehind.{WideBehind, here, through, of_start, of_begin}
 use Rattle.llp_wide.proofs.Finding.{in_at, at_in}
 
 module _ (g : Grammar) (nullable first : List Bool) (b : ℕ) (spots : List Spot) where
-  -- What waits is a member, and covered or no less than `last`. No string that is in a cell is greater than that, and all that is forced waits.
-  pub record IsWideSettling (cell : ℕ → Symbol → Slots) (claims : List Claim) : Type 0 where
-    pub last : List Symbol
-    pub ordered : (z : ℕ) (s : Symbol) → AreInOrder (cell z s)
-    pub made : (z : ℕ) (s : Symbol) (t : List Symbol) → Holds (cell z s) t → WideBehind g z s b t
-    pub behind : (z : ℕ) (s : Symbol) (t : List Symbol) → Holds (cell z s) t → IsBefore last t → ⊥
-    pub waits : (x : Claim) → IsIn claims x → WideBehind g x.before x.symbol b x.stack
-    pub ahead : (x : Claim) → IsIn claims x → (covers (cell x.before x.symbol) x.stack ≡ true) ⊎ (IsBefore x.stack last → ⊥)
-    pub firsts : (x : Claim) → IsFirstClaim nullable first b g spots x → IsIn claims x
-    pub passes : (z : ℕ) (s : Symbol) (t : List Symbol) → Holds (cell z s) t → (x : Claim) → IsPassOf nullable (record { before = z; symbol = s; stack = t }) spots x → IsIn claims x
+  abbrev pub Settling : List Symbol → (ℕ → Symbol → Slots) → List Claim → Type 0
+  Settling last cell claims = IsWideSettling g nullable first b spots last cell claims
 
   module _ (nulls : AreMarksOf g (Nullable g) nullable) (marks : AreMarksOf g (First g b) first) (are : AreSpots g spots) where
     -- ---- what is forced is so
@@ -66,10 +59,9 @@ module _ (g : Grammar) (nullable first : List Bool) (b : ℕ) (spots : List Spot
 
     -- ---- at the start
 
-    pub wide_settling_start : (cell : ℕ → Symbol → Slots) (claims : List Claim) → ((z : ℕ) (s : Symbol) → cell z s ≡ Empty) → Adds (IsFirstClaim nullable first b g spots) [] claims → IsWideSettling cell claims
+    pub wide_settling_start : (cell : ℕ → Symbol → Slots) (claims : List Claim) → ((z : ℕ) (s : Symbol) → cell z s ≡ Empty) → Adds (IsFirstClaim nullable first b g spots) [] claims → Settling [] cell claims
     wide_settling_start cell claims none all =
         record {
-          last = [];
           ordered = λ z s. subst AreInOrder (sym (none z s)) tt;
           made = λ z s t h. absurd (subst (λ c. Holds c t) (none z s) h);
           behind = λ z s t h l. subst (λ c. Holds c t) (none z s) h;
@@ -81,13 +73,13 @@ module _ (g : Grammar) (nullable first : List Bool) (b : ℕ) (spots : List Spot
 
     -- ---- a step
 
-    module _ (old new : ℕ → Symbol → Slots) (claims more : List Claim) (p : Claim) (h : IsWideSettling old claims) (next : IsLeastClaim claims old p) where
-      ahead_of : IsBefore p.stack h.last → ⊥
-      ahead_of = ⊎_elim (λ (e : covers (old p.before p.symbol) p.stack ≡ true). absurd (true≢false (sym e ∙ next.uncovered))) (λ (k : IsBefore p.stack h.last → ⊥). k) (h.ahead p next.waiting)
+    module _ (last : List Symbol) (old new : ℕ → Symbol → Slots) (claims more : List Claim) (p : Claim) (h : Settling last old claims) (next : IsLeastClaim claims old p) where
+      ahead_of : IsBefore p.stack last → ⊥
+      ahead_of = ⊎_elim (λ (e : covers (old p.before p.symbol) p.stack ≡ true). absurd (true≢false (sym e ∙ next.uncovered))) (λ (k : IsBefore p.stack last → ⊥). k) (h.ahead p next.waiting)
 
       -- the cell had room
       pub wide_room_left : room (old p.before p.symbol) ≡ suc (room (add p.stack (old p.before p.symbol)))
-      wide_room_left = add_room p.stack h.last ahead_of (old p.before p.symbol) (h.behind p.before p.symbol) next.uncovered
+      wide_room_left = add_room p.stack last ahead_of (old p.before p.symbol) (h.behind p.before p.symbol) next.uncovered
 
       module _ (at : new p.before p.symbol ≡ add p.stack (old p.before p.symbol)) (there : (z : ℕ) (s : Symbol) → ((z ≡ p.before) × (s ≡ p.symbol)) ⊎ (new z s ≡ old z s)) (added : Adds (IsPassOf nullable p spots) claims more) where
         each : (P : ℕ → Symbol → Slots → Type 0) → ((z : ℕ) (s : Symbol) → P z s (old z s)) → P p.before p.symbol (add p.stack (old p.before p.symbol)) → (z : ℕ) (s : Symbol) → P z s (new z s)
@@ -117,22 +109,30 @@ module _ (g : Grammar) (nullable first : List Bool) (b : ℕ) (spots : List Spot
             passed : IsPassOf nullable p spots x → (covers (new x.before x.symbol) x.stack ≡ true) ⊎ (IsBefore x.stack p.stack → ⊥)
             passed (i, i_below, (spot, spot_is, (symbol_is, before_is, vanish, x_is))) = inr (λ l. not_before_front spot.after p.stack (subst (λ w. IsBefore w p.stack) (ap (λ (c : Claim). c.stack) x_is) l))
 
-        pub wide_settling_on : IsWideSettling new more
+        pub wide_settling_on : Settling p.stack new more
         wide_settling_on =
             record {
-              last = p.stack;
-              ordered = each (λ z s c. AreInOrder c) h.ordered (add_ordered p.stack h.last ahead_of (old p.before p.symbol) (h.ordered p.before p.symbol) (h.behind p.before p.symbol) next.uncovered);
+              ordered = each (λ z s c. AreInOrder c) h.ordered (add_ordered p.stack last ahead_of (old p.before p.symbol) (h.ordered p.before p.symbol) (h.behind p.before p.symbol) next.uncovered);
               made = λ z s t k. ⊎_elim (λ (o : Holds (old z s) t). h.made z s t o) (λ (e : IsIt z s t). subst (λ (c : Claim). WideBehind g c.before c.symbol b c.stack) (it_is z s t e) (h.waits p next.waiting)) (held z s t k);
-              behind = λ z s t k l. ⊎_elim (λ (o : Holds (old z s) t). up_to t h.last p.stack (h.behind z s t o) ahead_of l) (λ (e : IsIt z s t). before_not_itself p.stack (subst (IsBefore p.stack) e.2 l)) (held z s t k);
+              behind = λ z s t k l. ⊎_elim (λ (o : Holds (old z s) t). up_to t last p.stack (h.behind z s t o) ahead_of l) (λ (e : IsIt z s t). before_not_itself p.stack (subst (IsBefore p.stack) e.2 l)) (held z s t k);
               waits = λ x k. ⊎_elim (λ (f : IsIn claims x). h.waits x f) (λ (f : IsPassOf nullable p spots x). pass_behind p (h.waits p next.waiting) x f) (added.from x k);
               ahead = ahead_now;
               firsts = λ x k. added.keeps x (h.firsts x k);
               passes = λ z s t k x f. ⊎_elim (λ (o : Holds (old z s) t). added.keeps x (h.passes z s t o x f)) (λ (e : IsIt z s t). added.meets x (subst (λ (c : Claim). IsPassOf nullable c spots x) (sym (it_is z s t e)) f)) (held z s t k);
             }
 
+    -- what waits and is the last string is the least that isn't covered
+    pub again_least : (last : List Symbol) (cell : ℕ → Symbol → Slots) (claims : List Claim) (p : Claim) → Settling last cell claims → IsIn claims p → p.stack ≡ last → covers (cell p.before p.symbol) p.stack ≡ false → IsLeastClaim claims cell p
+    again_least last cell claims p h waiting same uncovered =
+        record {
+          waiting = waiting;
+          uncovered = uncovered;
+          least = λ x k. subst (λ (w : List Symbol). (covers (cell x.before x.symbol) x.stack ≡ true) ⊎ (IsBefore x.stack w → ⊥)) (sym same) (h.ahead x k);
+        }
+
     -- ---- at the end
 
-    module _ (cell : ℕ → Symbol → Slots) (claims : List Claim) (h : IsWideSettling cell claims) (none : AreClaimsCovered claims cell) where
+    module _ (last : List Symbol) (cell : ℕ → Symbol → Slots) (claims : List Claim) (h : Settling last cell claims) (none : AreClaimsCovered claims cell) where
       first_covered : (x : Claim) → IsFirstClaim nullable first b g spots x → IsCovered (Holds (cell x.before x.symbol)) x.stack
       first_covered x k = covers_is (cell x.before x.symbol) x.stack (h.ordered x.before x.symbol) (none x (h.firsts x k))
 

@@ -6,3 +6,8 @@ pub mod Places
 pub mod Surveys
 pub mod Claims
 pub mod Classes
+pub mod Settling
+pub mod WideFaults
+pub mod WideConflicts
+pub mod WideEntries
+pub mod Triples

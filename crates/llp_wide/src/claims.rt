@@ -216,6 +216,9 @@ pub(crate) fn add_passes(
 ) -> Result<(), AllocError>
     ensures { IfOk result (λ u. Adds (IsPassOf nullable.now (record { before = before; symbol = symbol; stack = below.now }) places.now) waiting.old.items waiting.new.items) }
 {
+    if let Symbol::Terminal(_) = symbol {
+        return Ok(());
+    }
     for i in 0..places.len() {
         add_pass(alloc, nullable, &places[i], before, symbol, below, waiting)?;
     }
@@ -239,8 +242,8 @@ fn is_lesser(a: &Waiting, b: &Waiting) -> bool
     is_before(a.stack.as_slice(), b.stack.as_slice())
 }
 
-// Whether the string is covered by its cell.
-fn is_covered(classes: &[Members], waiting: &Waiting) -> bool
+/// Whether the string is covered by its cell.
+pub(crate) fn is_covered(classes: &[Members], waiting: &Waiting) -> bool
     ensures { result ≡ covers (cells_at classes.now waiting.now.before waiting.now.symbol) waiting.now.stack }
 {
     covers(

@@ -1,15 +1,25 @@
-//! LLP(2,1): the set PSLS with two terminals of look-back.
+//! LLP(2,1): the set PSLS with two terminals of look-back, and the tables of pieces for a grammar.
 #![tactic(auto)]
 
 mod claims;
+mod conflicts;
 mod endings;
+mod fault;
+mod generator;
 mod laws;
 mod members;
+mod pieces;
 mod places;
 mod search;
 mod survey;
 #[cfg(test)]
+mod table_tests;
+#[cfg(test)]
 mod tests;
+mod triples;
+mod wide_table;
 
+pub use fault::WideFault;
 pub use laws::{one_terminal_serves_two, wide_look_back_by_rules};
 pub use members::wide_members;
+pub use wide_table::WideTables;

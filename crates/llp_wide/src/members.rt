@@ -1,17 +1,40 @@
 // PSLS with two terminals of look-back, for one terminal that comes next.
 
-ghost use Rattle.std.specs.Prelude.{ℕ, IfOk};
-ghost use Rattle.grammar_file.specs.declared.symbols.Symbol.TheVariants.{Terminal as AnyTerminal};
+ghost use Rattle.std.specs.Prelude.{ℕ, ◌∷◌, [], IfOk};
+ghost use Rattle.grammar_file.specs.declared.symbols.Symbol.TheVariants.{Terminal as AnyTerminal, Nonterminal as AnyNonterminal};
+ghost use Rattle.grammar_file.specs.Grammar.{IsWellFormed};
+ghost use Rattle.grammar_file.specs.Marks.{AreMarksOf};
 ghost use Rattle.llp_tables.specs.LeastMembers.{KeepsLeast};
 ghost use Rattle.llp_tables.specs.Lookbacks.{cells_at};
+ghost use Rattle.llp_tables.specs.Predict.{IsNullable};
+ghost use Rattle.llp_wide.specs.Places.{AreSpots};
 ghost use Rattle.llp_wide.specs.Wide.{IsWideLookback};
+ghost use Rattle.llp_wide.specs.WideConflicts.{TellWide};
 
 use crate::endings::endings;
+use crate::places::Place;
 use crate::search::least_wide_members;
 use crate::survey::places;
 use grammar_file::Grammar;
 use llp_tables::{Members, first, nullable};
 use std::alloc::{AllocError, Global};
+
+/// The members of PSLS(z,a,b) for each z and a, from the places of the grammar's symbols.
+pub(crate) fn members_on(
+    alloc: Global,
+    grammar: &Grammar,
+    nullable: &[bool],
+    places: &[Place],
+    b: u16,
+) -> Result<Vec<Members>, AllocError>
+    requires well_formed { IsWellFormed grammar.now }
+    requires nullable { AreMarksOf grammar.now (λ a. IsNullable grammar.now (AnyNonterminal a ∷ [])) nullable.now }
+    requires places { AreSpots grammar.now places.now }
+    ensures { IfOk result (λ v. TellWide grammar.now b v.items) }
+{
+    let first = first(alloc, grammar, nullable, b)?;
+    least_wide_members(alloc, grammar, nullable, first.as_slice(), places, b)
+}
 
 /// The members of PSLS(z,a,b) for each z and a, where the terminal b comes next: a class of cells for each z, and in it a cell for each
 /// a. A cell keeps the only member of its set, or the two least ones, and nothing where the set is empty. The begin mark is terminal 0,
@@ -22,13 +45,5 @@ pub fn wide_members(alloc: Global, grammar: &Grammar, b: u16) -> Result<Vec<Memb
     let nullable = nullable(alloc, grammar)?;
     let endings = endings(alloc, grammar, nullable.as_slice())?;
     let places = places(alloc, grammar, nullable.as_slice(), endings.as_slice())?;
-    let first = first(alloc, grammar, nullable.as_slice(), b)?;
-    least_wide_members(
-        alloc,
-        grammar,
-        nullable.as_slice(),
-        first.as_slice(),
-        places.as_slice(),
-        b,
-    )
+    members_on(alloc, grammar, nullable.as_slice(), places.as_slice(), b)
 }

@@ -1,21 +1,22 @@
 // What is closed behind each symbol where one terminal comes next, by what is matched last before the symbol.
 
-ghost use Rattle.std.specs.Prelude.{◌≡◌, ◌+◌, ◌∷◌, [], ℕ, length, IfOk};
+ghost use Rattle.std.specs.Prelude.{◌≡◌, ◌<◌, ◌≤◌, ◌+◌, ◌∷◌, [], ℕ, List, length, true, false, IfOk, OnOk};
 ghost use Rattle.grammar_file.specs.declared.symbols.Symbol.{Symbol as AnySymbol};
 ghost use Rattle.grammar_file.specs.declared.symbols.Symbol.TheVariants.{Nonterminal as AnyNonterminal};
 ghost use Rattle.grammar_file.specs.Grammar.{IsWellFormed};
 ghost use Rattle.grammar_file.specs.Marks.{AreMarksOf};
 ghost use Rattle.llp_tables.specs.Lookbacks.{cells_at};
 ghost use Rattle.llp_tables.specs.Predict.{IsNullable, IsFirst};
-ghost use Rattle.llp_tables.specs.Slots.{Empty as EmptySlots};
-ghost use Rattle.llp_wide.specs.Claims.{AreLeastWide, IsPassOf};
+ghost use Rattle.llp_tables.specs.Slots.{Empty as EmptySlots, covers};
+ghost use Rattle.llp_wide.specs.Claims.{AreLeastWide, IsLeastClaim, IsPassOf};
 ghost use Rattle.llp_wide.specs.Added.{Adds};
-ghost use Rattle.llp_wide.specs.Classes.{HasWideCell, HasAdded, AreClasses};
+ghost use Rattle.llp_wide.specs.Classes.{HasWideCell, HasAdded, AreClasses, room_in};
 ghost use Rattle.llp_wide.specs.Places.{AreSpots};
+ghost use Rattle.llp_wide.specs.Settling.{IsWideSettling};
 
-use crate::claims::{Waiting, add_passes, first_waiting, least_waiting};
+use crate::claims::{Waiting, add_passes, first_waiting, is_covered, least_waiting};
 use crate::places::Place;
-use grammar_file::Grammar;
+use grammar_file::{Grammar, Symbol};
 use llp_tables::Members;
 use std::alloc::{AllocError, Global};
 
@@ -82,8 +83,103 @@ fn pass_on(
     )
 }
 
+/// By what the cells are filled where the terminal b comes next.
+#[derive(Clone, Copy)]
+struct Ground<'a> {
+    grammar: &'a Grammar,
+    nullable: &'a [bool],
+    first: &'a [bool],
+    places: &'a [Place],
+    b: u16,
+}
+
+// Takes the least string that waits into its cell.
+fn take(
+    alloc: Global,
+    ground: &Ground<'_>,
+    claim: Waiting,
+    classes: &mut Vec<Members>,
+    waiting: &mut Vec<Waiting>,
+) -> Result<(), AllocError>
+    requires well_formed { IsWellFormed ground.now.grammar.now }
+    requires nullable { AreMarksOf ground.now.grammar.now (λ a. IsNullable ground.now.grammar.now (AnyNonterminal a ∷ [])) ground.now.nullable.now }
+    requires first { AreMarksOf ground.now.grammar.now (λ a. IsFirst ground.now.grammar.now (AnyNonterminal a ∷ []) ground.now.b) ground.now.first.now }
+    requires places { AreSpots ground.now.grammar.now ground.now.places.now }
+    requires classes { AreClasses (length ground.now.grammar.now.terminals + 2) (length ground.now.grammar.now.nonterminals) classes.old.items }
+    requires settling { (last : List AnySymbol) × IsWideSettling ground.now.grammar.now ground.now.nullable.now ground.now.first.now ground.now.b ground.now.places.now last (cells_at classes.old.items) waiting.old.items }
+    requires least { IsLeastClaim waiting.old.items (cells_at classes.old.items) claim }
+    ensures classes { OnOk result (AreClasses (length ground.now.grammar.now.terminals + 2) (length ground.now.grammar.now.nonterminals) classes.new.items) }
+    ensures settling { OnOk result (IsWideSettling ground.now.grammar.now ground.now.nullable.now ground.now.first.now ground.now.b ground.now.places.now claim.stack (cells_at classes.new.items) waiting.new.items) }
+    ensures room { OnOk result (room_in classes.new.items < room_in classes.old.items) }
+{
+    pass_on(alloc, ground.nullable, ground.places, &claim, waiting)?;
+    add(classes, claim);
+    Ok(())
+}
+
+// Whether the string is this one, and its cell doesn't cover it.
+fn is_next(classes: &[Members], waiting: &Waiting, stack: &[Symbol]) -> bool
+    ensures same { result ≡ true → waiting.now.stack ≡ stack.now }
+    ensures uncovered { result ≡ true → covers (cells_at classes.now waiting.now.before waiting.now.symbol) waiting.now.stack ≡ false }
+{
+    waiting.stack.as_slice() == stack && !is_covered(classes, waiting)
+}
+
+// Takes the string at a place of the list into its cell, where it is the one that was taken last, and isn't covered.
+fn take_at(
+    alloc: Global,
+    ground: &Ground<'_>,
+    stack: &[Symbol],
+    i: usize,
+    classes: &mut Vec<Members>,
+    waiting: &mut Vec<Waiting>,
+) -> Result<(), AllocError>
+    requires well_formed { IsWellFormed ground.now.grammar.now }
+    requires nullable { AreMarksOf ground.now.grammar.now (λ a. IsNullable ground.now.grammar.now (AnyNonterminal a ∷ [])) ground.now.nullable.now }
+    requires first { AreMarksOf ground.now.grammar.now (λ a. IsFirst ground.now.grammar.now (AnyNonterminal a ∷ []) ground.now.b) ground.now.first.now }
+    requires places { AreSpots ground.now.grammar.now ground.now.places.now }
+    requires classes { AreClasses (length ground.now.grammar.now.terminals + 2) (length ground.now.grammar.now.nonterminals) classes.old.items }
+    requires settling { IsWideSettling ground.now.grammar.now ground.now.nullable.now ground.now.first.now ground.now.b ground.now.places.now stack.now (cells_at classes.old.items) waiting.old.items }
+    ensures classes { OnOk result (AreClasses (length ground.now.grammar.now.terminals + 2) (length ground.now.grammar.now.nonterminals) classes.new.items) }
+    ensures settling { OnOk result (IsWideSettling ground.now.grammar.now ground.now.nullable.now ground.now.first.now ground.now.b ground.now.places.now stack.now (cells_at classes.new.items) waiting.new.items) }
+    ensures room { OnOk result (room_in classes.new.items ≤ room_in classes.old.items) }
+{
+    let Some(next) = waiting.get(i) else {
+        return Ok(());
+    };
+    if !is_next(classes.as_slice(), next, stack) {
+        return Ok(());
+    }
+    let claim = copied(alloc, next)?;
+    take(alloc, ground, claim, classes, waiting)
+}
+
+// Takes all strings that wait and are the one that was taken last.
+fn take_same(
+    alloc: Global,
+    ground: &Ground<'_>,
+    stack: &[Symbol],
+    classes: &mut Vec<Members>,
+    waiting: &mut Vec<Waiting>,
+) -> Result<(), AllocError>
+    requires well_formed { IsWellFormed ground.now.grammar.now }
+    requires nullable { AreMarksOf ground.now.grammar.now (λ a. IsNullable ground.now.grammar.now (AnyNonterminal a ∷ [])) ground.now.nullable.now }
+    requires first { AreMarksOf ground.now.grammar.now (λ a. IsFirst ground.now.grammar.now (AnyNonterminal a ∷ []) ground.now.b) ground.now.first.now }
+    requires places { AreSpots ground.now.grammar.now ground.now.places.now }
+    requires classes { AreClasses (length ground.now.grammar.now.terminals + 2) (length ground.now.grammar.now.nonterminals) classes.old.items }
+    requires settling { IsWideSettling ground.now.grammar.now ground.now.nullable.now ground.now.first.now ground.now.b ground.now.places.now stack.now (cells_at classes.old.items) waiting.old.items }
+    ensures classes { OnOk result (AreClasses (length ground.now.grammar.now.terminals + 2) (length ground.now.grammar.now.nonterminals) classes.new.items) }
+    ensures settling { OnOk result (IsWideSettling ground.now.grammar.now ground.now.nullable.now ground.now.first.now ground.now.b ground.now.places.now stack.now (cells_at classes.new.items) waiting.new.items) }
+    ensures room { OnOk result (room_in classes.new.items ≤ room_in classes.old.items) }
+{
+    for i in 0..waiting.len() {
+        take_at(alloc, ground, stack, i, classes, waiting)?;
+    }
+    Ok(())
+}
+
 /// The two least strings that are closed behind each symbol where b comes next, for each terminal that is matched last before the
-/// symbol. Strings come in from the least one on, so none is taken out again.
+/// symbol. Strings come in from the least one on, so none is taken out again, and all that are the same come in together.
 pub(crate) fn least_wide_members(
     alloc: Global,
     grammar: &Grammar,
@@ -98,13 +194,21 @@ pub(crate) fn least_wide_members(
     requires places { AreSpots grammar.now places.now }
     ensures { IfOk result (λ v. AreLeastWide grammar.now b (cells_at v.items)) }
 {
+    let ground = Ground {
+        grammar,
+        nullable,
+        first,
+        places,
+        b,
+    };
     let terminals = grammar.terminals().len() + 2;
     let mut classes = empty_classes(alloc, terminals, grammar.nonterminals().len())?;
     let mut waiting = first_waiting(alloc, grammar, nullable, first, places, b)?;
     while let Some(least) = least_waiting(classes.as_slice(), waiting.as_slice()) {
         let claim = copied(alloc, least)?;
-        pass_on(alloc, nullable, places, &claim, &mut waiting)?;
-        add(&mut classes, claim);
+        let stack = Vec::from_slice(alloc, claim.stack.as_slice())?;
+        take(alloc, &ground, claim, &mut classes, &mut waiting)?;
+        take_same(alloc, &ground, stack.as_slice(), &mut classes, &mut waiting)?;
     }
     Ok(classes)
 }

@@ -4,7 +4,7 @@ use Rattle.llp_tables.specs.Lookbacks.{cells_at}
 use Rattle.llp_wide.specs.Wide.{IsWideLookback}
 use Rattle.llp_wide.specs.WideBehind.{WideBehind}
 use Rattle.llp_wide.proofs.WideRules.{by_rules, by_derivations, keeps_as}
-use Rattle.llp_wide.proofs.members.wide_members.Goals as goal
+use Rattle.llp_wide.proofs.members.members_on.Goals as goal
 
 pub returns : goal.returns
 returns c =

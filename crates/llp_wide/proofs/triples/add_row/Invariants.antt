@@ -1,0 +1,7 @@
+use Rattle.llp_tables.specs.PieceRows.{width_of}
+use Rattle.llp_wide.specs.Triples.{AreTriplesUpTo}
+use Rattle.llp_wide.specs.WideEntries.{triple_place}
+use Rattle.llp_wide.proofs.triples.add_row.Given as goal
+
+abbrev pub invariant-loop-a : goal.invariant-loop-a
+invariant-loop-a l = AreTriplesUpTo l.grammar l.ahead.b l.start (triple_place (width_of l.grammar) l.z l.a l.ahead.b) l.triples.numbers.items l.triples.pieces.items

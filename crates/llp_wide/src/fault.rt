@@ -1,0 +1,141 @@
+// Why a grammar has no tables where two terminals are looked back at.
+
+ghost use Rattle.std.specs.Prelude.{◌≡◌, IfOk, MatchOption};
+ghost use Rattle.llp_tables.specs.Predict.{IsLl1};
+ghost use Rattle.llp_tables.specs.Tables.{IsNotLeftRecursive};
+ghost use Rattle.llp_wide.specs.WideFaults.{IsWideFault, line_of_wide_fault};
+ghost use Rattle.llp_wide.specs.declared.fault.WideFault.TheVariants.{Wide as AnyWide};
+
+use grammar_file::{Grammar, Symbol};
+use llp_tables::{Stack, TableFault, ll1_fault, push_name, push_stack};
+use std::alloc::{AllocError, Global};
+
+/// The least conflict of a grammar where two terminals are looked back at, or that memory ran out. `z`, `a` and `b` are
+/// terminals, `p1` and `p2` productions.
+#[derive(Drop)]
+pub enum WideFault {
+    /// The nonterminal derives, in one or more steps, a form that begins with itself.
+    LeftRecursive {
+        nonterminal: u16,
+    },
+    /// Two productions of the nonterminal predict b.
+    Ll1 {
+        nonterminal: u16,
+        b: u16,
+        p1: u16,
+        p2: u16,
+    },
+    /// Where z and then a are matched last, two different stacks may be closed before b.
+    Wide {
+        z: u16,
+        a: u16,
+        b: u16,
+        first: Stack,
+        second: Stack,
+    },
+    /// Memory ran out.
+    NoMemory,
+}
+
+impl From<AllocError> for WideFault {
+    ghost use Rattle.std.specs.Prelude.{◌≡◌};
+    ghost use Rattle.llp_wide.specs.declared.fault.WideFault.TheVariants.{NoMemory};
+
+    ghost from_gives = { λ _ e. e ≡ NoMemory };
+
+    fn from(_: AllocError) -> WideFault {
+        WideFault::NoMemory
+    }
+}
+
+/// Why a grammar isn't LL(1): its least left-recursive nonterminal, else its least conflict of predictions.
+pub(crate) fn prediction_fault(
+    alloc: Global,
+    grammar: &Grammar,
+) -> Result<Option<WideFault>, AllocError>
+    ensures { IfOk result (λ o. MatchOption o (IsNotLeftRecursive grammar.now × IsLl1 grammar.now) (IsWideFault grammar.now)) }
+{
+    match ll1_fault(alloc, grammar)? {
+        Some(TableFault::LeftRecursive { nonterminal }) => {
+            Ok(Some(WideFault::LeftRecursive { nonterminal }))
+        }
+        Some(
+            TableFault::Ll1 {
+                nonterminal,
+                b,
+                p1,
+                p2,
+            },
+        ) => Ok(Some(WideFault::Ll1 {
+            nonterminal,
+            b,
+            p1,
+            p2,
+        })),
+        Some(TableFault::NoMemory) => Err(AllocError),
+        Some(TableFault::Llp { .. }) => Ok(None),
+        None => Ok(None),
+    }
+}
+
+// The line of two stacks that may be closed before b, where z and then a are matched last.
+fn wide_line(
+    alloc: Global,
+    grammar: &Grammar,
+    z: u16,
+    a: u16,
+    b: u16,
+    first: &Stack,
+    second: &Stack,
+) -> Result<Vec<u8>, AllocError>
+    ensures { IfOk result (λ text. text.items ≡ line_of_wide_fault grammar.now (AnyWide z a b first.now second.now)) }
+{
+    let mut text = b"conflict ".to_vec(alloc)?;
+    push_name(&mut text, grammar, Symbol::Terminal(z))?;
+    text.extend_from_slice(b" ")?;
+    push_name(&mut text, grammar, Symbol::Terminal(a))?;
+    text.extend_from_slice(b" ")?;
+    push_name(&mut text, grammar, Symbol::Terminal(b))?;
+    text.extend_from_slice(b": ")?;
+    push_stack(&mut text, grammar, first)?;
+    text.extend_from_slice(b" | ")?;
+    push_stack(&mut text, grammar, second)?;
+    Ok(text)
+}
+
+impl WideFault {
+    /// The line that is printed of the fault, without its line feed. Symbols have their names of the grammar.
+    pub fn line(&self, alloc: Global, grammar: &Grammar) -> Result<Vec<u8>, AllocError>
+        ensures { IfOk result (λ text. text.items ≡ line_of_wide_fault grammar.now self.now) }
+    {
+        match self {
+            WideFault::LeftRecursive { nonterminal } => {
+                let nonterminal = *nonterminal;
+                let fault = TableFault::LeftRecursive { nonterminal };
+                fault.line(alloc, grammar)
+            }
+            WideFault::Ll1 {
+                nonterminal,
+                b,
+                p1,
+                p2,
+            } => {
+                let fault = TableFault::Ll1 {
+                    nonterminal: *nonterminal,
+                    b: *b,
+                    p1: *p1,
+                    p2: *p2,
+                };
+                fault.line(alloc, grammar)
+            }
+            WideFault::Wide {
+                z,
+                a,
+                b,
+                first,
+                second,
+            } => wide_line(alloc, grammar, *z, *a, *b, first, second),
+            WideFault::NoMemory => b"out of memory".to_vec(alloc),
+        }
+    }
+}
