@@ -1,0 +1,14 @@
+mod Tables
+mod Numbered
+mod Behind
+mod TokensBack
+mod OwnedTokens
+mod Shaped
+mod Stretched
+mod TokenFacts
+mod Walks
+mod Fitting
+mod DigitRows
+mod Joined
+mod Wholes
+mod RowFaults

@@ -1,0 +1,28 @@
+-- The goals of `settle_into` that stay open.
+use Rattle.std.proofs.Common.{ℕ, List, length, map, refl, sym, ap, ◌∙◌, subst}
+use Rattle.std.proofs.lemmas.List.{length-map}
+use Rattle.row_kin.specs.Settles.{Stretched}
+use Rattle.row_kin.specs.Alone.{ties_by_stretches}
+use Rattle.row_kin.proofs.Joined.{joined_many, joined_alone}
+use Rattle.row_kin.proofs.settling.settle_into.Goals as goal
+
+pub settle_all-requires-clause-parents : goal.settle_all-requires-clause-parents
+settle_all-requires-clause-parents c = ap length c.requires.parents ∙ length-map (ties_by_stretches c.args.lows.now c.args.ends.now) (λ t. t.parent) ∙ joined_many c.args.lows.now c.args.ends.now (length c.args.lows.now) c.requires.cuts refl
+
+pub settle_all-requires-clause-firsts : goal.settle_all-requires-clause-firsts
+settle_all-requires-clause-firsts c = ap length c.requires.firsts ∙ length-map (ties_by_stretches c.args.lows.now c.args.ends.now) (λ t. t.low) ∙ joined_many c.args.lows.now c.args.ends.now (length c.args.lows.now) c.requires.cuts refl
+
+pub settle_all-requires-clause-places : goal.settle_all-requires-clause-places
+settle_all-requires-clause-places c = ap length c.requires.places ∙ length-map (ties_by_stretches c.args.lows.now c.args.ends.now) (λ t. t.place) ∙ joined_many c.args.lows.now c.args.ends.now (length c.args.lows.now) c.requires.cuts refl
+
+pub settle_all-requires-clause-counts : goal.settle_all-requires-clause-counts
+settle_all-requires-clause-counts c = ap length c.requires.counts ∙ length-map (ties_by_stretches c.args.lows.now c.args.ends.now) (λ t. t.count) ∙ joined_many c.args.lows.now c.args.ends.now (length c.args.lows.now) c.requires.cuts refl
+
+pub settle_all-requires-clause-stretches : goal.settle_all-requires-clause-stretches
+settle_all-requires-clause-stretches c =
+    let ties = ties_by_stretches c.args.lows.now c.args.ends.now in
+    subst (λ (a : List ℕ). Stretched c.args.lows.now a c.args.firsts.now c.args.places.now c.args.counts.now c.args.ends.now 0 (length c.args.ends.now)) (sym c.requires.parents)
+    (subst (λ (a : List ℕ). Stretched c.args.lows.now (map (λ t. t.parent) ties) a c.args.places.now c.args.counts.now c.args.ends.now 0 (length c.args.ends.now)) (sym c.requires.firsts)
+    (subst (λ (a : List ℕ). Stretched c.args.lows.now (map (λ t. t.parent) ties) (map (λ t. t.low) ties) a c.args.counts.now c.args.ends.now 0 (length c.args.ends.now)) (sym c.requires.places)
+    (subst (λ (a : List ℕ). Stretched c.args.lows.now (map (λ t. t.parent) ties) (map (λ t. t.low) ties) (map (λ t. t.place) ties) a c.args.ends.now 0 (length c.args.ends.now)) (sym c.requires.counts)
+    (joined_alone c.args.lows.now c.args.ends.now (length c.args.lows.now) c.requires.cuts refl))))

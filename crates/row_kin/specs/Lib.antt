@@ -1,0 +1,4 @@
+-- The files of this folder.
+pub mod Taken
+pub mod Settles
+pub mod Alone

@@ -1,0 +1,14 @@
+pub mod Cuts
+pub mod Recursion
+pub mod Runs
+pub mod Nodes
+pub mod Each
+pub mod Cell
+pub mod Walks
+pub mod Sizes
+pub mod Reading
+pub mod Ahead
+pub mod OwnRows
+pub mod Gives
+pub mod Wholes
+pub mod Stable
