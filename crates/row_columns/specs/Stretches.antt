@@ -49,7 +49,7 @@ pub record AreRowColumns (ms : List Mark) (kinds : List Kind) (lows tokens : Lis
   pub lows_are : lows ≡ lows_from 0 ms
   pub tokens_are : tokens ≡ map (λ k. token_word (settled_at ms k)) (range_with_len 0 (length ms))
 
--- no statement that is a value stands right behind another one, so its token is that of the row right before it (of a walk's rows `walks_give_rows` says so)
+-- no statement that is a value stands right behind another one, so its token is that of the row right before it
 abbrev pub ValuesStandApart : List Mark → Type 0
 ValuesStandApart ms = (k : ℕ) → suc k < length ms → settled_at ms (suc k) ≡ (if is_eval (mark_at ms (suc k)).kind then (mark_at ms k).token else (mark_at ms (suc k)).token)
 
