@@ -14,7 +14,7 @@ ghost use Rattle.row_columns.specs.RowFaults.{least_in};
 ghost use Rattle.row_columns.specs.Stretches.{AreRowColumns, AreSmall, AreStretch, ValuesStandApart, last_of, tree_marks};
 
 /// Columns of stretches, one behind the other, are those of all their rows; and those of all rows of a walk, with the program's own behind
-/// them, are the columns of the rows of the tree.
+/// them, are the columns of the walk's marks, where statements that are values stand apart.
 pub fn stretches_are_rows()
     ensures together { (ps : List Production) (ts : List Token) (count : ℕ) (last : Made) (ms ns : List Made) (kinds more_kinds : List Kind) (lows more_lows words more_words : List ℕ) → AreStretch ps ts count last ms kinds lows words → AreStretch ps ts (count + length ms) (last_of last ms) ns more_kinds more_lows more_words → AreStretch ps ts count last (ms ++ ns) (kinds ++ more_kinds) (lows ++ more_lows) (words ++ more_words) }
     ensures whole { (r : Tree Prog) (text : List ℕ) → leaves r ≡ tokens text → lexical_fault text ≡ None → ValuesStandApart (tree_marks r) → (last : Made) (kinds : List Kind) (lows words : List ℕ) → AreStretch (left_parse r) (leaves r) 0 last (made_by (left_parse r)) kinds lows words → AreRowColumns (tree_marks r) (kinds ++ Program ∷ []) (lows ++ 0 ∷ []) (words ++ 4294967295 ∷ []) }

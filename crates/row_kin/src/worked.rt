@@ -1,4 +1,4 @@
-//! Worked rows, alone and by stretches.
+//! Small trees and lists, alone and by stretches.
 ghost use Rattle.std.specs.Prelude.{◌<◌, ◌≤◌, length};
 
 use crate::alone::{Kin, kin_alone};
