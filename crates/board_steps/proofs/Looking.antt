@@ -37,13 +37,13 @@ shares_whole (suc m) (suc n) a b = refl
 module _ {I : Type 0} (ops : Ops I) (sums : List I) where
   -- what a look tells is the status, since a status says one thing
   same_status : (j word : ℕ) (st : Status I) (found : Look I) → word ≡ word_of ops st → IsTrueOf ops sums j st → Found ops sums j word found → seen found ≡ st
-  same_status j word X (Nothing u) e h f = refl
+  same_status j word X Nothing e h f = refl
   same_status j word X (Sum x) e h f = absurd (omega (arith, f.0))
   same_status j word X (Prefix x) e h f = absurd (omega (arith, f.0))
-  same_status j word (A v) (Nothing u) e h f = absurd (omega (arith, f.0))
+  same_status j word (A v) Nothing e h f = absurd (omega (arith, f))
   same_status j word (A v) (Sum x) e h f = ap A (value_at sums j ops.unit x f.1 ∙ sym h)
   same_status j word (A v) (Prefix x) e h f = absurd (omega (arith, f.0))
-  same_status j word (P v) (Nothing u) e h f = absurd (omega (arith, f.0))
+  same_status j word (P v) Nothing e h f = absurd (omega (arith, f))
   same_status j word (P v) (Sum x) e h f = absurd (omega (arith, f.0))
   same_status j word (P v) (Prefix x) e h f = ap P (f.1 ∙ sym h)
 

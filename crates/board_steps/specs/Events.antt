@@ -13,7 +13,7 @@ use Rattle.board_steps.specs.Parts.{ClaimTable, StatusTable, claim_part, IsStatu
 
 -- the status that the answer of `look` tells
 abbrev pub seen : {I : Type 0} → Look I → Status I
-seen (Nothing unseen) = X
+seen Nothing = X
 seen (Sum x) = A x
 seen (Prefix x) = P x
 

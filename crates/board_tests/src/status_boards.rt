@@ -26,7 +26,7 @@ fn before_one<N: Chunks<u64>, L: Ledger>(
     requires sums { N.sums ≡ 4 ∷ 5 ∷ [] }
     ensures { seat.new.board ≡ seat.old.board }
 {
-    let fold = |unseen: Unseen| -> u64
+    let fold = |unseen: Unseen<'_>| -> u64
         ensures { result ≡ 4 }
     {
         let _ = unseen;
@@ -47,7 +47,7 @@ fn looks<N: Chunks<u64>>(rt: &impl Abort, alloc: Global) -> Result<(), Fail>
     assert_eq!(rt; before_one::<N, Brand>(&board, &mut new, Blank::new(1)), 4);
     board.seal(&mut old, 0, 4);
     assert!(rt; matches!(board.look(&mut new, 0), Look::Prefix(4)));
-    assert!(rt; matches!(board.look(&mut new, 1), Look::Nothing(_)));
+    assert!(rt; matches!(board.look(&mut new, 1), Look::Nothing));
     board.join(&mut old, new);
     board.close(old);
     Ok(())
@@ -72,7 +72,7 @@ fn looks_back<N: Chunks<u64>, L: Ledger>(
     board.show(&mut seat, 1, 5);
     board.seal(&mut seat, 1, 10);
     let folded = AtomicU64::new(0);
-    let fold = |unseen: Unseen| -> u64
+    let fold = |unseen: Unseen<'_>| -> u64
         ensures { result ≡ 5 }
     {
         folded.fetch_or(1 << (unseen.chunk() % 64), Ordering::SeqCst);

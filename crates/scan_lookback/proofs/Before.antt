@@ -5,6 +5,7 @@ use Rattle.word_monoid.specs.Monoid.{Ops, IsItem, IsMonoid}
 use Rattle.word_monoid.specs.Folds.{prefix_of}
 use Rattle.word_monoid.proofs.Folds.{all_at, prefix_item, prefix_next}
 use Rattle.scan_lookback.specs.Views.{loading, looking}
+use Rattle.scan_lookback.specs.LookSteps.{LastLoaded}
 use Rattle.scan_lookback.specs.Held.{Held, held}
 use Rattle.scan_lookback.specs.LookBacks.{TellsPrefix, IsLookBack}
 
@@ -35,6 +36,10 @@ module _ {T : Type 0} (ops : Ops T) (laws : IsMonoid ops) (sums : List T) (items
       let there : whole ≡ before j = at ∙ ap before (add-one k ∙ next) in
       let same : joined ≡ before c = is ∙ (ap (λ (x : T). ops.join x sum) there ∙ so_far) in
       (subst (IsItem ops) (sym same) (before_item c), same)
+
+-- the load that is noted last
+pub last_is : (old now : Held) (j word : ℕ) → now ≡ held old.board (looking old.view j word) → LastLoaded now.view j word
+last_is old now j word is = (old.view.looked, ap (λ (s : Held). s.view.looked) is)
 
 -- what a look-back from the chunk c leaves
 abbrev pub Ends : ℕ → Held → Held → ℕ → ℕ → Type 0

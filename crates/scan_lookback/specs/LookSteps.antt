@@ -26,10 +26,6 @@ FoundNothing v j = (times j v.shown ≡ 0) × All (λ p. p.0 ≡ j → p.1 ≡ 0
 abbrev pub LastLoaded : LookView → ℕ → ℕ → Type 0
 LastLoaded v j word = (earlier : List (ℕ × ℕ)) × (v.looked ≡ earlier ++ (j, word) ∷ [])
 
--- a seat's last load was of the chunk j, and the word was 0
-abbrev pub IsLookedAt : ℕ → Type 0
-IsLookedAt j = (v : LookView) × LastLoaded v j 0
-
 -- the load is noted, and the word is one that the chunk may have
 abbrev pub Finds : List ℕ → List ℕ → Step (Unit {0}) → Looker → ℕ → Looker → Type 0
 Finds sums prefixes st m r m' =

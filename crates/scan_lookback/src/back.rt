@@ -5,8 +5,9 @@ ghost use Rattle.word_monoid.specs.Monoid.{IsItem};
 ghost use Rattle.word_monoid.specs.Folds.{prefix_of};
 ghost use Rattle.scan_lookback.specs.Views.{looking, loading};
 ghost use Rattle.scan_lookback.specs.LookBacks.{IsLookBack};
+ghost use Rattle.scan_lookback.specs.LookSteps.{LastLoaded};
 ghost use Rattle.scan_lookback.specs.Held.{held};
-ghost use Rattle.scan_lookback.specs.Found.{Found, KnownAt, IsSum};
+ghost use Rattle.scan_lookback.specs.Found.{Found, KnownAt, IsSum, IsUnseen};
 
 use crate::board::{ScanBoard, Seat};
 use crate::look::{Known, Look};
@@ -18,28 +19,30 @@ use word_monoid::WordMonoid;
 
 impl<'a, M: WordMonoid, N: Chunks<M::Item>> ScanBoard<'a, M, N> {
     // What is known of a chunk after a look. Where it found nothing, the chunk is folded.
-    fn known<F: Fn(Unseen) -> M::Item>(
+    fn known<F: Fn(Unseen<'_>) -> M::Item>(
         &self,
+        seat: &Seat,
         j: u64,
         found: Look<M::Item>,
         fold: &F,
     ) -> Known<M::Item>
         requires chunk { j < self.now.chunks }
-        requires callable { (u : _) → u.chunk ≡ j → F.pre fold.now u }
-        requires folds { (u : _) (x : _) → u.chunk ≡ j → F.post fold.now u x → IsSum (M.ops self.now.monoid) N.sums j x }
-        requires found { (word : ℕ) × Found (M.ops self.now.monoid) N.sums j word found }
+        requires callable { (u : _) → IsUnseen self.now.board j u → F.pre fold.now u }
+        requires folds { (u : _) (x : _) → IsUnseen self.now.board j u → F.post fold.now u x → IsSum (M.ops self.now.monoid) N.sums j x }
+        requires board { seat.now.board ≡ self.now.board }
+        requires found { (word : ℕ) × LastLoaded seat.now.view j word × Found (M.ops self.now.monoid) N.sums j word found }
         ensures { (word : ℕ) → Found (M.ops self.now.monoid) N.sums j word found → KnownAt (M.ops self.now.monoid) N.sums j word result }
     {
         let _named = self.monoid();
         match found {
             Look::Prefix(prefix) => Known::Whole(prefix),
             Look::Sum(sum) => Known::Part(sum),
-            Look::Nothing(unseen) => Known::Part(fold(unseen)),
+            Look::Nothing => Known::Part(fold(Unseen::of(seat, j))),
         }
     }
 
     // One load, which is one step, and a fold where it finds nothing.
-    fn step<F: Fn(Unseen) -> M::Item, L: Ledger>(
+    fn step<F: Fn(Unseen<'_>) -> M::Item, L: Ledger>(
         &self,
         seat: &mut Seat,
         j: u64,
@@ -48,19 +51,19 @@ impl<'a, M: WordMonoid, N: Chunks<M::Item>> ScanBoard<'a, M, N> {
     ) -> Known<M::Item>
         requires board { seat.old.board ≡ self.now.board }
         requires chunk { j < self.now.chunks }
-        requires callable { (u : _) → u.chunk ≡ j → F.pre fold.now u }
-        requires folds { (u : _) (x : _) → u.chunk ≡ j → F.post fold.now u x → IsSum (M.ops self.now.monoid) N.sums j x }
+        requires callable { (u : _) → IsUnseen self.now.board j u → F.pre fold.now u }
+        requires folds { (u : _) (x : _) → IsUnseen self.now.board j u → F.post fold.now u x → IsSum (M.ops self.now.monoid) N.sums j x }
         ensures load { (word : ℕ) × (seat.new ≡ held seat.old.board (looking seat.old.view j word)) × KnownAt (M.ops self.now.monoid) N.sums j word result }
         ensures counted { steps.new ≡ steps.old + 1 }
     {
         steps.tick();
         let found = self.look(seat, j);
-        self.known(j, found, fold)
+        self.known(seat, j, found, fold)
     }
 
     /// The join of the sums before a chunk. It looks at the chunks before it, from the nearest on, until one tells its prefix, with
     /// one load, which is one step, for each. A chunk of which nothing is published is folded.
-    pub fn before<F: Fn(Unseen) -> M::Item, L: Ledger>(
+    pub fn before<F: Fn(Unseen<'_>) -> M::Item, L: Ledger>(
         &self,
         seat: &mut Seat,
         c: u64,
@@ -69,8 +72,8 @@ impl<'a, M: WordMonoid, N: Chunks<M::Item>> ScanBoard<'a, M, N> {
     ) -> M::Item
         requires board { seat.old.board ≡ self.now.board }
         requires chunk { c < self.now.chunks }
-        requires callable { (u : _) → u.chunk < c → F.pre fold.now u }
-        requires folds { (u : _) (x : _) → u.chunk < c → F.post fold.now u x → IsSum (M.ops self.now.monoid) N.sums u.chunk x }
+        requires callable { (u : _) → u.chunk < c → IsUnseen self.now.board u.chunk u → F.pre fold.now u }
+        requires folds { (u : _) (x : _) → u.chunk < c → IsUnseen self.now.board u.chunk u → F.post fold.now u x → IsSum (M.ops self.now.monoid) N.sums u.chunk x }
         ensures joined { result ≡ prefix_of (M.ops self.now.monoid) N.sums c }
         ensures item { IsItem (M.ops self.now.monoid) result }
         ensures loads { (loads : List (ℕ × ℕ)) × (seat.new ≡ held seat.old.board (loading seat.old.view loads)) × IsLookBack c loads × (steps.new ≡ steps.old + length loads) }
@@ -90,7 +93,7 @@ impl<'a, M: WordMonoid, N: Chunks<M::Item>> ScanBoard<'a, M, N> {
     }
 
     // The same, for a caller that counts nothing.
-    pub(crate) fn joined_before<F: Fn(Unseen) -> M::Item, L: Ledger>(
+    pub(crate) fn joined_before<F: Fn(Unseen<'_>) -> M::Item, L: Ledger>(
         &self,
         seat: &mut Seat,
         c: u64,
@@ -100,8 +103,8 @@ impl<'a, M: WordMonoid, N: Chunks<M::Item>> ScanBoard<'a, M, N> {
         requires ledger { (blank.name ≡ L.name) × (blank.parts ≡ L.parts) × (0 < L.parts) }
         requires board { seat.old.board ≡ self.now.board }
         requires chunk { c < self.now.chunks }
-        requires callable { (u : _) → u.chunk < c → F.pre fold.now u }
-        requires folds { (u : _) (x : _) → u.chunk < c → F.post fold.now u x → IsSum (M.ops self.now.monoid) N.sums u.chunk x }
+        requires callable { (u : _) → u.chunk < c → IsUnseen self.now.board u.chunk u → F.pre fold.now u }
+        requires folds { (u : _) (x : _) → u.chunk < c → IsUnseen self.now.board u.chunk u → F.post fold.now u x → IsSum (M.ops self.now.monoid) N.sums u.chunk x }
         ensures joined { result ≡ prefix_of (M.ops self.now.monoid) N.sums c }
         ensures item { IsItem (M.ops self.now.monoid) result }
         ensures loads { (loads : List (ℕ × ℕ)) × (seat.new ≡ held seat.old.board (loading seat.old.view loads)) × IsLookBack c loads }

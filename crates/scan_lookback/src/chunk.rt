@@ -66,9 +66,9 @@ impl<'a, M: WordMonoid, N: Chunks<M::Item>> ScanBoard<'a, M, N> {
         let monoid = self.monoid();
         let sum = chunk_sum::<T, M, N, F>(monoid, items, lift, size, c);
         self.show(seat, c, sum);
-        let fold = |unseen: Unseen| -> M::Item
+        let fold = |unseen: Unseen<'_>| -> M::Item
             requires { All (F.pre lift.now) items.now × Scans (M.ops monoid.now) (F.post lift.now) size items.now N.items N.sums × (0 < size) × (unseen.chunk < length N.sums) }
-            ensures { slice_get N.sums unseen.chunk ≡ Some result }
+            ensures { slice_get N.sums unseen.entry.chunk ≡ Some result }
         { chunk_sum::<T, M, N, F>(monoid, items, lift, size, unseen.chunk()) };
         let start = self.joined_before::<_, Brand>(seat, c, &fold, Blank::new(1));
         self.seal(seat, c, monoid.join(start, sum));

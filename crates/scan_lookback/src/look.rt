@@ -2,13 +2,12 @@
 ghost use Rattle.std.specs.Prelude.{◌≡◌, ℕ, ◌<◌, length};
 ghost use Rattle.scan_lookback.specs.Views.{looking};
 ghost use Rattle.scan_lookback.specs.Posting.{Status};
-ghost use Rattle.scan_lookback.specs.LookSteps.{LastLoaded, FoundNothing};
+ghost use Rattle.scan_lookback.specs.LookSteps.{FoundNothing};
 ghost use Rattle.scan_lookback.specs.Named.{Names};
 ghost use Rattle.scan_lookback.specs.Held.{held};
 ghost use Rattle.scan_lookback.specs.Found.{Found};
 
 use crate::board::{ScanBoard, Seat};
-use crate::unseen::Unseen;
 use crate::views::Chunks;
 use word_monoid::WordMonoid;
 
@@ -16,7 +15,7 @@ use word_monoid::WordMonoid;
 #[derive(Drop)]
 pub enum Look<T> {
     /// Nothing was published of the chunk.
-    Nothing(Unseen),
+    Nothing,
     /// The join of the chunk's items.
     Sum(T),
     /// The join of the sums of all chunks up to it and with it.
@@ -31,20 +30,14 @@ pub(crate) enum Known<T> {
 }
 
 // What the word of a chunk says, which the seat has just loaded.
-fn read<M: WordMonoid, N: Chunks<M::Item>>(
-    monoid: &M,
-    seat: &Seat,
-    j: u64,
-    word: u64,
-) -> Look<M::Item>
+fn read<M: WordMonoid, N: Chunks<M::Item>>(monoid: &M, j: u64, word: u64) -> Look<M::Item>
     requires names { Names (M.ops monoid.now) N.sums N.sum_codes N.prefix_codes }
     requires chunk { j < length N.sums }
     requires status { Status N.sum_codes N.prefix_codes j word }
-    requires loaded { LastLoaded seat.now.view j word }
     ensures { Found (M.ops monoid.now) N.sums j word result }
 {
     match word % 4 {
-        0 => Look::Nothing(Unseen::of(seat, j)),
+        0 => Look::Nothing,
         1 => Look::Sum(monoid.of_word(word / 4)),
         _ => Look::Prefix(monoid.of_word(word / 4)),
     }
@@ -59,6 +52,6 @@ impl<'a, M: WordMonoid, N: Chunks<M::Item>> ScanBoard<'a, M, N> {
         ensures { (word : ℕ) × (seat.new ≡ held seat.old.board (looking seat.old.view j word)) × Found (M.ops self.now.monoid) N.sums j word result × (word ≡ 0 → FoundNothing seat.old.view j) }
     {
         let word = self.load_word(seat, j);
-        read::<M, N>(self.monoid(), seat, j, word)
+        read::<M, N>(self.monoid(), j, word)
     }
 }

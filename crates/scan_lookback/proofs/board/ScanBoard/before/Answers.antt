@@ -1,5 +1,5 @@
 use Rattle.std.proofs.Common.{◌≡◌, ◌-◌, suc, ap, ◌∙◌, arith}
-use Rattle.scan_lookback.proofs.Before.{begins, takes_part, down_none, down_more, down_ends, down_zero, ends_bound}
+use Rattle.scan_lookback.proofs.Before.{begins, takes_part, down_none, down_more, down_zero}
 use Rattle.scan_lookback.proofs.board.ScanBoard.before.Goals as goal
 
 pub loop-j-init : goal.loop-j-init
