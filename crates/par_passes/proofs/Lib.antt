@@ -1,3 +1,4 @@
+pub mod Bundling
 pub mod Together
 pub mod Marking
 pub mod Giving

@@ -13,19 +13,19 @@ use std::thread::join;
 
 // What a group of workers leaves: its seat, and the chunks that it drew with what was made of each.
 #[derive(Drop)]
-pub(crate) struct Made<U: Copy> {
+pub(crate) struct Made<B: Drop> {
     pub mine: Seat,
-    pub all: Vec<(u64, Vec<U>)>,
+    pub all: Vec<(u64, B)>,
 }
 
 // All that one worker does: it draws chunks until none is left.
-fn work<C: Crew, U: Copy, F: Fn(u64) -> Result<Vec<U>, AllocError>>(
+fn work<C: Crew, B: Drop, F: Fn(u64) -> Result<B, AllocError>>(
     crew: &C,
     claims: &ClaimBoard,
     mine: &mut Seat,
     worker: u32,
     make: &F,
-) -> Result<Vec<(u64, Vec<U>)>, AllocError>
+) -> Result<Vec<(u64, B)>, AllocError>
     requires board { mine.old.board ≡ claims.now.board }
     requires unspent { 0 < mine.old.view.share }
     requires callable { Callable claims.now.chunks (F.pre make.now) }
@@ -33,27 +33,27 @@ fn work<C: Crew, U: Copy, F: Fn(u64) -> Result<Vec<U>, AllocError>>(
     ensures weight { mine.new.view.weight ≡ mine.old.view.weight }
     ensures spent { OnOk result (mine.new.view.share ≡ 0) }
     ensures drawn { IfOk result (λ v. mine.new.view.claimed ≡ mine.old.view.claimed ++ map (λ p. p.0) v.items) }
-    ensures lists { IfOk result (λ v. All (Gave claims.now.chunks (F.post make.now)) v.items) }
+    ensures made { IfOk result (λ v. All (Gave claims.now.chunks (F.post make.now)) v.items) }
 {
     let mut all = Vec::new(crew.alloc());
     while let Some(c) = claims.claim(mine) {
         crew.gate().after_claim(worker, Some(c));
-        let list = make(c)?;
-        all.push((c, list))?;
+        let bundle = make(c)?;
+        all.push((c, bundle))?;
     }
     crew.gate().after_claim(worker, None);
     Ok(all)
 }
 
 // Two groups of workers are one.
-fn merge<U: Copy, F: Fn(u64) -> Result<Vec<U>, AllocError>>(
+fn merge<B: Drop, F: Fn(u64) -> Result<B, AllocError>>(
     claims: &ClaimBoard,
     make: &F,
     rest: u32,
     half: u32,
-    one: Made<U>,
-    two: Made<U>,
-) -> Result<Made<U>, AllocError>
+    one: Made<B>,
+    two: Made<B>,
+) -> Result<Made<B>, AllocError>
     requires one { Makes claims.now.chunks (F.post make.now) claims.now.board rest one }
     requires two { Makes claims.now.chunks (F.post make.now) claims.now.board half two }
     ensures { IfOk result (λ r. Makes claims.now.chunks (F.post make.now) claims.now.board (rest + half) r) }
@@ -71,14 +71,14 @@ fn merge<U: Copy, F: Fn(u64) -> Result<Vec<U>, AllocError>>(
 }
 
 // That many workers, each in a thread of its own where threads can be made.
-fn run<C: Crew, U: Copy + Send + Sync, F: Fn(u64) -> Result<Vec<U>, AllocError> + Sync>(
+pub(crate) fn run<C: Crew, B: Drop + Send, F: Fn(u64) -> Result<B, AllocError> + Sync>(
     crew: &C,
     claims: &ClaimBoard,
     mut mine: Seat,
     first: u32,
     workers: u32,
     make: &F,
-) -> Result<Made<U>, AllocError>
+) -> Result<Made<B>, AllocError>
     requires board { mine.board ≡ claims.now.board }
     requires new { mine.view ≡ fresh workers }
     requires workers { (1 ≤ workers) × (first + workers ≤ 64) }
@@ -95,11 +95,11 @@ fn run<C: Crew, U: Copy + Send + Sync, F: Fn(u64) -> Result<Vec<U>, AllocError> 
     let theirs = claims.split(&mut mine, half);
     let (one, two) = join(
         crew.runtime(),
-        move || -> Result<Made<U>, AllocError>
+        move || -> Result<Made<B>, AllocError>
             requires { (mine.board ≡ claims.now.board) × (mine.view ≡ fresh rest) × (1 ≤ rest) × (first + rest ≤ 64) × Callable claims.now.chunks (F.pre make.now) }
             ensures { IfOk result (λ r. Makes claims.entry.now.chunks (F.post make.entry.now) claims.entry.now.board rest r) }
         { run(crew, claims, mine, first, rest, make) },
-        move || -> Result<Made<U>, AllocError>
+        move || -> Result<Made<B>, AllocError>
             requires { (theirs.board ≡ claims.now.board) × (theirs.view ≡ fresh half) × (1 ≤ half) × (after + half ≤ 64) × Callable claims.now.chunks (F.pre make.now) }
             ensures { IfOk result (λ r. Makes claims.entry.now.chunks (F.post make.entry.now) claims.entry.now.board half r) }
         { run(crew, claims, theirs, after, half, make) },

@@ -2,6 +2,7 @@
 //! that each pass gives its list's definition whatever the plan is.
 #![tactic(auto)]
 
+mod bundles;
 mod chunk;
 mod crew;
 mod dealt;

@@ -7,6 +7,7 @@ ghost use Rattle.word_monoid.specs.Monoid.{IsItem};
 ghost use Rattle.scatter_rows.specs.Scattered.{AreDistinct, IsScattered};
 ghost use Rattle.par_passes.specs.Passes.{Gives, marked};
 
+use crate::bundles::bundles;
 use crate::crew::by_chunks;
 use crate::each::{map, map_lifted};
 use crate::fewest::{least, least_of};
@@ -189,6 +190,19 @@ pub trait Passes: Crew {
         ensures { IfOk result (λ v. (part : ℕ → List U) → ((c : ℕ) (x : Vec U) → c < count → F.post make.now c (Ok x) → x.items ≡ part c) → v.items ≡ flat_map part (range_with_len 0 count)) }
     {
         by_chunks(self, count, capacity, make)
+    }
+
+    /// What is made of each number below `count`, in the order of the numbers: for what isn't a list of values, or is taken apart afterwards.
+    final fn bundles<B: Drop + Send, F: Fn(u64) -> Result<B, AllocError> + Sync>(
+        &self,
+        count: usize,
+        make: &F,
+    ) -> Result<Vec<B>, AllocError>
+        requires count { count < 2 ^ 62 }
+        requires callable { All (F.pre make.now) (range_with_len 0 count) }
+        ensures { IfOk result (λ v. Gives (λ c b. F.post make.now c (Ok b)) (range_with_len 0 count) v.items) }
+    {
+        bundles(self, count, make)
     }
 
     /// The list of `len` cells in which each place holds its value, and every other cell 0.

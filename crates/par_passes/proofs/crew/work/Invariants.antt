@@ -10,7 +10,7 @@ invariant-loop-c g l = record {
   unspent : 0 < l.mine.view.share;
   callable : Callable l.claims.chunks (goal.F-pre g l.make);
   drawn : l.mine.view.claimed ≡ l.initial.mine.view.claimed ++ map (λ p. p.0) l.all.items;
-  lists : All (Gave l.claims.chunks (goal.F-post g l.make)) l.all.items;
+  made : All (Gave l.claims.chunks (goal.F-post g l.make)) l.all.items;
 }
 
 abbrev pub decreases-loop-c : goal.decreases-loop-c
