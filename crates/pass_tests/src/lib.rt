@@ -4,16 +4,8 @@
 #[cfg(test)]
 mod callers;
 #[cfg(test)]
-mod groups;
-#[cfg(test)]
 mod jumping;
-#[cfg(test)]
-mod keys;
 #[cfg(test)]
 mod minima;
 #[cfg(test)]
-mod nearest;
-#[cfg(test)]
 mod passes;
-#[cfg(test)]
-mod stretches;

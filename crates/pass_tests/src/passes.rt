@@ -1,10 +1,10 @@
 //! Passes, for every kind of plan, and who works on them.
-ghost use Rattle.std.specs.Prelude.{◌<◌, ◌≤◌, ◌^◌, ◌/◌, length, map};
+ghost use Rattle.std.specs.Prelude.{◌≡◌, ◌<◌, ◌≤◌, ◌^◌, ◌/◌, length, map, Ok};
 
-use crate::callers::{copies, crew};
+use crate::callers::{copies, crew, lowest_of};
 use chunk_seats::{Gate, Plan};
 use par_passes::{Lift, Passes, Workers};
-use std::alloc::Global;
+use std::alloc::{AllocError, Global};
 use std::process::Abort;
 use std::sync::atomic::{AtomicU64, Ordering};
 use std::test::*;
@@ -67,6 +67,13 @@ fn the_same_for_every_plan(rt: HostRuntime) -> Result<(), Fail> {
     Ok(())
 }
 
+// What is made of a number where no memory is needed.
+fn half_of(k: u64) -> Result<u64, AllocError>
+    ensures { result ≡ Ok (k / 2) }
+{
+    Ok(k / 2)
+}
+
 // The passes over so many items, of which three make a chunk.
 fn answers<R: Threads + Abort + Sync>(
     rt: &R,
@@ -88,8 +95,14 @@ fn answers<R: Threads + Abort + Sync>(
     assert!(rt; places.as_slice() == &[0, 1, 2, 3][..n]);
     let table = crew.tabulate(n as u32, &|k: u32| k / 2)?;
     assert!(rt; table.as_slice() == &[0, 0, 1, 1][..n]);
+    let below = crew.numbers_where(n as u32, &|k: u32| k < 4)?;
+    assert!(rt; below.as_slice() == &[0, 1, 2, 3][..n]);
+    let lowest = lowest_of(&crew, &[8, 6, 4, 2][..n])?;
+    assert_eq!(rt; lowest, [u64::MAX, 8, 6, 4, 2][n]);
     let numbers = crew.by_chunks(n, n, &|k: u64| copies(alloc, k, 1))?;
     assert!(rt; numbers.as_slice() == &[0, 1, 2, 3][..n]);
+    let bundles = crew.bundles(n, &half_of)?;
+    assert!(rt; bundles.as_slice() == &[0, 0, 1, 1][..n]);
     let up = crew.sorted(&[8, 6, 4, 2][4 - n..])?;
     assert!(rt; up.as_slice() == items);
     let sums = crew.scan_lifted(&Count, items, &More)?;
@@ -293,6 +306,10 @@ fn two_workers_meet(rt: HostRuntime) -> Result<(), Fail> {
     let gate = nobody_yet();
     let numbers = at(&rt, alloc, 2, 1, &gate)?.by_chunks(2, 2, &|k: u64| copies(alloc, k, 1))?;
     assert!(rt; numbers.as_slice() == [0, 1].as_slice());
+    assert!(rt; have_met(&gate));
+    let gate = nobody_yet();
+    let bundles = at(&rt, alloc, 2, 1, &gate)?.bundles(4, &half_of)?;
+    assert!(rt; bundles.as_slice() == [0, 0, 1, 1].as_slice());
     assert!(rt; have_met(&gate));
     let gate = nobody_yet();
     let placed = at(&rt, alloc, 2, 1, &gate)?.gather(&[5, 6, 7], &[2, 0, 2])?;

@@ -12,7 +12,8 @@ use Rattle.row_laws.specs.Climbed.{lows_from}
 use Rattle.row_walk.specs.Walk.{Made}
 use Rattle.row_walk.specs.Marks.{mark_of}
 use Rattle.row_columns.specs.TokensOf.{no_token}
-use Rattle.row_columns.specs.Stretches.{AreStretch, kept_kind, last_of, token_of_last, tokens_behind}
+use Rattle.row_pieces.specs.Pieces.{last_behind}
+use Rattle.row_columns.specs.Stretches.{AreStretch, kept_kind, token_of_last, tokens_behind}
 
 pub lows_append : (i : ℕ) (xs ys : List Mark) → lows_from i (xs ++ ys) ≡ lows_from i xs ++ lows_from (i + length xs) ys
 lows_append i [] ys = ap (λ (n : ℕ). lows_from n ys) (let e : i ≡ i + 0 = omega arith in e)
@@ -27,15 +28,15 @@ pub tokens_append : (before : Option ℕ) (xs ys : List Mark) → tokens_behind 
 tokens_append before [] ys = refl
 tokens_append before (x ∷ xs) ys = ap (λ l. (if is_eval x.kind then before else x.token) ∷ l) (tokens_append x.token xs ys)
 
-behind_last : (f : Made → Mark) (m : Made) (ms : List Made) → token_behind (f m).token (map f ms) ≡ (f (last_of m ms)).token
+behind_last : (f : Made → Mark) (m : Made) (ms : List Made) → token_behind (f m).token (map f ms) ≡ (f (last_behind m ms)).token
 behind_last f m [] = refl
 behind_last f m (n ∷ ms) = behind_last f n ms
 
-behind_is : (f : Made → Mark) (count : ℕ) (last : Made) (ms : List Made) → token_behind (token_of_last count (f last)) (map f ms) ≡ token_of_last (count + length ms) (f (last_of last ms))
+behind_is : (f : Made → Mark) (count : ℕ) (last : Made) (ms : List Made) → token_behind (token_of_last count (f last)) (map f ms) ≡ token_of_last (count + length ms) (f (last_behind last ms))
 behind_is f count last [] = ap (λ (n : ℕ). token_of_last n (f last)) (let e : count ≡ count + 0 = omega arith in e)
-behind_is f count last (m ∷ ms) = behind_last f m ms ∙ ap (λ (n : ℕ). token_of_last n (f (last_of m ms))) (let e : suc (count + length ms) ≡ count + suc (length ms) = omega arith in e)
+behind_is f count last (m ∷ ms) = behind_last f m ms ∙ ap (λ (n : ℕ). token_of_last n (f (last_behind m ms))) (let e : suc (count + length ms) ≡ count + suc (length ms) = omega arith in e)
 
-pub stretches_join : (ps : List Production) (ts : List Token) (count : ℕ) (last : Made) (ms ns : List Made) (kinds more_kinds : List Kind) (lows more_lows words more_words : List ℕ) → AreStretch ps ts count last ms kinds lows words → AreStretch ps ts (count + length ms) (last_of last ms) ns more_kinds more_lows more_words → AreStretch ps ts count last (ms ++ ns) (kinds ++ more_kinds) (lows ++ more_lows) (words ++ more_words)
+pub stretches_join : (ps : List Production) (ts : List Token) (count : ℕ) (last : Made) (ms ns : List Made) (kinds more_kinds : List Kind) (lows more_lows words more_words : List ℕ) → AreStretch ps ts count last ms kinds lows words → AreStretch ps ts (count + length ms) (last_behind last ms) ns more_kinds more_lows more_words → AreStretch ps ts count last (ms ++ ns) (kinds ++ more_kinds) (lows ++ more_lows) (words ++ more_words)
 stretches_join ps ts count last ms ns kinds more_kinds lows more_lows words more_words a b =
     let f : Made → Mark = mark_of no_token ps ts in
     record {
@@ -47,7 +48,7 @@ stretches_join ps ts count last ms ns kinds more_kinds lows more_lows words more
           ∙ ap (lows_from count) (sym (map-append f ms ns));
       tokens_are =
           (λ j. a.tokens_are j ++ b.tokens_are j)
-          ∙ sym (map-append token_word (tokens_behind (token_of_last count (f last)) (map f ms)) (tokens_behind (token_of_last (count + length ms) (f (last_of last ms))) (map f ns)))
+          ∙ sym (map-append token_word (tokens_behind (token_of_last count (f last)) (map f ms)) (tokens_behind (token_of_last (count + length ms) (f (last_behind last ms))) (map f ns)))
           ∙ ap (map token_word)
           (ap (λ o. tokens_behind (token_of_last count (f last)) (map f ms) ++ tokens_behind o (map f ns)) (sym (behind_is f count last ms))
           ∙ sym (tokens_append (token_of_last count (f last)) (map f ms) (map f ns))

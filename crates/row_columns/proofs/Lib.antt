@@ -1,14 +1,13 @@
-mod Tables
-mod Numbered
-mod Behind
-mod TokensBack
-mod OwnedTokens
-mod Shaped
-mod Stretched
-mod TokenFacts
-mod Walks
-mod Fitting
-mod DigitRows
-mod Joined
-mod Wholes
-mod RowFaults
+pub mod Numbered
+pub mod Behind
+pub mod TokensBack
+pub mod OwnedTokens
+pub mod Shaped
+pub mod Stretched
+pub mod TokenFacts
+pub mod Walks
+pub mod Fitting
+pub mod DigitRows
+pub mod Joined
+pub mod Wholes
+pub mod RowFaults

@@ -14,7 +14,6 @@ use Rattle.row_laws.specs.Evals.{is_eval}
 use Rattle.row_laws.specs.Owned.{owned}
 use Rattle.row_laws.specs.Places.{production_at}
 use Rattle.row_laws.specs.Climbed.{lows_from, mark_at, no_mark, settled_at}
-use Rattle.row_laws.proofs.Climbed.{lows_many}
 use Rattle.row_laws.proofs.Placed.{same_list}
 use Rattle.row_walk.specs.Walk.{Made, made_by}
 use Rattle.row_walk.specs.Marks.{is_value, mark_of, walk_marks}
@@ -31,13 +30,6 @@ indexed h ms =
     (λ k l.
     let less : k < length ms = (let e = length-map ms h in omega arith) in
     get_or-map h ms k no_mark (h no_mark) less ∙ sym (get_or-map-range_with_len (λ k. h (mark_at ms k)) 0 (length ms) k k (h no_mark) less (omega arith)))
-
-pub columns_many : (ms : List Mark) (kinds : List Kind) (lows words : List ℕ) → AreRowColumns ms kinds lows words → (length kinds ≡ length ms) × (length lows ≡ length ms) × (length words ≡ length ms)
-columns_many ms kinds lows words c = (
-  ap length c.kinds_are ∙ length-map-range_with_len (λ k. (mark_at ms k).kind) 0 (length ms),
-  ap length c.lows_are ∙ lows_many 0 ms,
-  ap length c.tokens_are ∙ length-map-range_with_len (λ k. token_word (settled_at ms k)) 0 (length ms),
-)
 
 -- ---- tokens, settled
 tokens_many : (before : Option ℕ) (ms : List Mark) → length (tokens_behind before ms) ≡ length ms

@@ -3,7 +3,8 @@ ghost use Rattle.std.specs.Prelude.{◌≡◌, suc, drop, slice_index_or, if◌t
 ghost use Rattle.row_laws.specs.Emitted.{type_of};
 ghost use Rattle.row_laws.specs.Types.{first_type};
 ghost use Rattle.row_walk.specs.Marks.{body_type as body_type_of, is_block as opens_block};
-ghost use Rattle.row_columns.specs.Numbers.{production_of, productions_of};
+ghost use Rattle.row_pieces.specs.Numbers.{production_of};
+ghost use Rattle.row_columns.specs.Numbers.{productions_of};
 ghost use Rattle.row_columns.specs.Shapes.{is_value_shape, kind_by_shape, type_by};
 ghost use Rattle.row_columns.specs.RowValues.{shape_in};
 ghost use Rattle.row_columns.specs.TokensOf.{own_lexeme};
@@ -11,8 +12,9 @@ ghost use Rattle.row_columns.specs.TokensOf.{own_lexeme};
 use crate::columns::production;
 use crate::reading::owned_lexeme;
 use crate::shapes::{Shape, shape_by};
-use crate::source::{Made, Source};
+use crate::source::Source;
 use crate::spelled::{comparison, decimal, prefix, product, sum};
+use row_pieces::Made;
 use source_meaning::{BinaryOp, Kind, UnaryOp, ValueType};
 
 // The type that a production is.
@@ -57,14 +59,14 @@ fn body_type(numbers: &[u16], place: usize) -> ValueType
 pub(crate) fn row_shape(numbers: &[u16], row: Made) -> Shape
     ensures { result ≡ shape_in numbers.now row }
 {
-    shape_by(production(numbers, row.place as usize))
+    shape_by(production(numbers, row.place() as usize))
 }
 
 /// The kind of a row of a shape.
 pub(crate) fn row_kind(source: &Source<'_>, shape: Shape, row: Made) -> Kind
     ensures { result ≡ kind_by_shape shape (own_lexeme source.now.text.now source.now.starts.now source.now.lengths.now source.now.owned.now row.own) (type_by shape (drop (suc row.place) (productions_of source.now.numbers.now))) }
 {
-    let behind = row.place as usize + 1;
+    let behind = row.place() as usize + 1;
     match shape {
         Shape::Function => Kind::Function(body_type(source.numbers, behind)),
         Shape::Param => Kind::Param(type_there(source.numbers, behind)),
@@ -101,7 +103,7 @@ fn row_lexeme<'a>(source: &Source<'a>, row: Made) -> &'a [u8]
         source.starts,
         source.lengths,
         source.owned,
-        row.own,
+        row.own(),
     )
 }
 

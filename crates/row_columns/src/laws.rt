@@ -11,15 +11,15 @@ ghost use Rattle.row_laws.specs.Faulted.{fault_keys};
 ghost use Rattle.row_walk.specs.Walk.{Made, made_by};
 ghost use Rattle.row_walk.specs.Marks.{walk_marks};
 ghost use Rattle.row_columns.specs.RowFaults.{least_in};
-ghost use Rattle.row_columns.specs.Stretches.{AreRowColumns, AreSmall, AreStretch, ValuesStandApart, last_of, tree_marks};
+ghost use Rattle.row_pieces.specs.Pieces.{last_behind};
+ghost use Rattle.row_columns.specs.Stretches.{AreRowColumns, AreSmall, AreStretch, ValuesStandApart, tree_marks};
 
 /// Columns of stretches, one behind the other, are those of all their rows; and those of all rows of a walk, with the program's own behind
 /// them, are the columns of the walk's marks, where statements that are values stand apart.
 pub fn stretches_are_rows()
-    ensures together { (ps : List Production) (ts : List Token) (count : ℕ) (last : Made) (ms ns : List Made) (kinds more_kinds : List Kind) (lows more_lows words more_words : List ℕ) → AreStretch ps ts count last ms kinds lows words → AreStretch ps ts (count + length ms) (last_of last ms) ns more_kinds more_lows more_words → AreStretch ps ts count last (ms ++ ns) (kinds ++ more_kinds) (lows ++ more_lows) (words ++ more_words) }
+    ensures together { (ps : List Production) (ts : List Token) (count : ℕ) (last : Made) (ms ns : List Made) (kinds more_kinds : List Kind) (lows more_lows words more_words : List ℕ) → AreStretch ps ts count last ms kinds lows words → AreStretch ps ts (count + length ms) (last_behind last ms) ns more_kinds more_lows more_words → AreStretch ps ts count last (ms ++ ns) (kinds ++ more_kinds) (lows ++ more_lows) (words ++ more_words) }
     ensures whole { (r : Tree Prog) (text : List ℕ) → leaves r ≡ tokens text → lexical_fault text ≡ None → ValuesStandApart (tree_marks r) → (last : Made) (kinds : List Kind) (lows words : List ℕ) → AreStretch (left_parse r) (leaves r) 0 last (made_by (left_parse r)) kinds lows words → AreRowColumns (tree_marks r) (kinds ++ Program ∷ []) (lows ++ 0 ∷ []) (words ++ 4294967295 ∷ []) }
     ensures small { (r : Tree Prog) (text : List ℕ) → leaves r ≡ tokens text → lexical_fault text ≡ None → length text ≤ 2 ^ 24 → AreSmall (tree_marks r) }
-    ensures many { (ms : List Mark) (kinds : List Kind) (lows words : List ℕ) → AreRowColumns ms kinds lows words → (length kinds ≡ length ms) × (length lows ≡ length ms) × (length words ≡ length ms) }
     ensures fit { (d : Token) (ps : List Production) (ts : List Token) → FitFrom 0 (walk_marks d ps ts) }
 {}
 

@@ -16,6 +16,5 @@ mod tests;
 
 pub use faults::least_fault;
 pub use laws::{stretches_are_rows, stretches_tell_faults};
-pub use reading::is_owned;
-pub use source::{Made, Source};
+pub use source::Source;
 pub use stretch::{Columns, add_program, stretch_columns};

@@ -1,6 +1,6 @@
 //! What a production makes of a row.
 ghost use Rattle.std.specs.Prelude.{◌≡◌};
-ghost use Rattle.row_columns.specs.Numbers.{production_of};
+ghost use Rattle.row_pieces.specs.Numbers.{production_of};
 ghost use Rattle.row_columns.specs.Shapes.{shape_of};
 
 /// What the row of a production is. `TruthType` is the type of truth values, which has no row; `Plain` is a name that isn't called, and all

@@ -4,12 +4,13 @@ ghost use Rattle.source_meaning.specs.declared.kinds.Kind.TheVariants.{Program};
 ghost use Rattle.source_meaning.specs.Grammar.{Prog, Tree, leaves, left_parse};
 ghost use Rattle.row_columns.specs.Numbers.{IsParseOf};
 ghost use Rattle.row_columns.specs.TokensOf.{AreTokensOf};
-ghost use Rattle.row_columns.specs.RowValues.{AreValues, walk_row, word_in, word_of_last};
+ghost use Rattle.row_columns.specs.RowValues.{AreValues, word_in, word_of_last};
 ghost use Rattle.row_columns.specs.Stretches.{AreStretch};
 
 use crate::columns::number;
 use crate::kinds::{row_kind, row_shape, word_where};
-use crate::source::{Made, Source};
+use crate::source::Source;
+use row_pieces::Made;
 use source_meaning::Kind;
 use std::alloc::{AllocError, Global};
 
@@ -26,7 +27,7 @@ fn row_word(source: &Source<'_>, row: Made) -> u32
     ensures { result ≡ word_in source.now.owned.now source.now.numbers.now row }
 {
     let shape = row_shape(source.numbers, row);
-    word_where(shape, u32::MAX, number(source.owned, row.own as usize))
+    word_where(shape, u32::MAX, number(source.owned, row.own() as usize))
 }
 
 // The word of the last of so many rows.
@@ -58,10 +59,10 @@ fn columns_behind(
     let mut end = count;
     for row in made {
         let shape = row_shape(source.numbers, *row);
-        let own = number(source.owned, row.own as usize);
+        let own = number(source.owned, row.own() as usize);
         end += 1;
         kinds.push(row_kind(source, shape, *row))?;
-        lows.push(end.saturating_sub(row.size))?;
+        lows.push(end.saturating_sub(row.size()))?;
         tokens.push(word_where(shape, before, own))?;
         before = word_where(shape, u32::MAX, own);
     }
@@ -83,7 +84,7 @@ pub fn stretch_columns(
 ) -> Result<Columns, AllocError>
     requires tokens { AreTokensOf source.now.text.now source.now.starts.now source.now.lengths.now source.now.owned.now }
     requires rows { count + length made.now ≤ 4294967295 }
-    ensures { IfOk result (λ v. (r : Tree Prog) → IsParseOf source.now.text.now source.now.numbers.now r → AreStretch (left_parse r) (leaves r) count (walk_row last) (map walk_row made.now) v.kinds.items v.lows.items v.tokens.items) }
+    ensures { IfOk result (λ v. (r : Tree Prog) → IsParseOf source.now.text.now source.now.numbers.now r → AreStretch (left_parse r) (leaves r) count last made.now v.kinds.items v.lows.items v.tokens.items) }
 {
     columns_behind(alloc, source, made, last_word(source, last, count), count)
 }

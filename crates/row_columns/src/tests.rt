@@ -1,8 +1,9 @@
 // Worked columns: a function whose rows come in two stretches, and rows that show faults.
 
 use crate::faults::least_fault;
-use crate::source::{Made, Source};
+use crate::source::Source;
 use crate::stretch::{add_program, stretch_columns};
+use row_pieces::Made;
 use source_meaning::{BinaryOp, Kind, ValueType};
 use std::test::*;
 

@@ -1,22 +1,10 @@
 -- Stretches that are settled one after the other.
-use Rattle.std.proofs.Common.{◌≡◌, ℕ, ◌+◌, ◌-◌, ◌<◌, ◌≤◌, ◌⊎◌, inl, inr, ◌++◌, take, List, length, ap, ◌∙◌, subst, arith}
+use Rattle.std.proofs.Common.{◌≡◌, ℕ, ◌+◌, ◌<◌, ◌≤◌, ◌⊎◌, inl, inr, List, length, ap, ◌∙◌, subst, arith}
 use Rattle.std.proofs.lemmas.Bool.{cases_lt}
-use Rattle.std.proofs.lemmas.List.{get_or_append_left, get_or-append_right, get_or-take, length-take-le}
-use Rattle.nearest_all.specs.Nearest.{number_at}
-use Rattle.nearest_all.specs.Stretches.{start_of, AreCuts}
-use Rattle.nearest_all.proofs.Along.{starts_rise}
+use Rattle.list_cuts.specs.Cuts.{number_at, start_of, AreCuts}
+use Rattle.row_kin.proofs.Starts.{starts_rise}
 use Rattle.row_kin.specs.Taken.{taker, taken_by}
 use Rattle.row_kin.specs.Settles.{DoneAlone, Stretched}
-
--- a part that was written into a list, and what stands before it
-pub put_there : (ns part post : List ℕ) (from j : ℕ) → from ≤ length ns → j < length part → number_at (take from ns ++ (part ++ post)) (from + j) ≡ number_at part j
-put_there ns part post from j le lt =
-    get_or-append_right (take from ns) (part ++ post) from (from + j) 0 (length-take-le from ns le) (omega arith)
-    ∙ ap (number_at (part ++ post)) (let e : from + j - from ≡ j = omega arith in e)
-    ∙ get_or_append_left part post 0 j lt
-
-pub put_before : (ns rest : List ℕ) (from k : ℕ) → from ≤ length ns → k < from → number_at (take from ns ++ rest) k ≡ number_at ns k
-put_before ns rest from k le lt = get_or_append_left (take from ns) rest 0 k (let l = length-take-le from ns le in omega arith) ∙ get_or-take from ns k 0 lt
 
 module _ (lows parents firsts places counts parents' firsts' places' counts' : List ℕ) where
   -- a stretch where nothing was written

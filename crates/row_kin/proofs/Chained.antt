@@ -2,8 +2,8 @@
 use Rattle.std.proofs.Common.{◌≡◌, ◌≢◌, ℕ, ◌+◌, ◌<◌, ◌≤◌, ◌⊎◌, inl, inr, Bool, List, length, min, max, set, sym, ap, ◌∙◌, subst, arith}
 use Rattle.std.specs.Prelude.{nat_lt, if◌then◌else◌}
 use Rattle.std.proofs.lemmas.Bool.{cases_lt}
-use Rattle.nearest_all.specs.Nearest.{number_at}
-use Rattle.nearest_all.specs.Stretches.{IsNextUntil, IsBeginFrom}
+use Rattle.list_cuts.specs.Cuts.{number_at}
+use Rattle.row_kin.specs.Searched.{IsNextUntil, IsBeginFrom}
 use Rattle.row_kin.specs.Taken.{taker, first_of, taken_by, parent_by, place_by, placed_by, Looks}
 use Rattle.row_kin.specs.Settles.{Done, DoneAlone, Settling}
 use Rattle.row_kin.proofs.Looking.{lt_true, lt_false, is_taker, taker_behind, is_first, inside_ends, outside_stays, look_begins, none_between, none_outside, parent_same, place_same, place_new, place_later}

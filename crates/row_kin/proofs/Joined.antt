@@ -3,10 +3,9 @@ use Rattle.std.proofs.Common.{◌≡◌, ℕ, zero, suc, ◌+◌, ◌-◌, ◌<�
 use Rattle.std.specs.List.{range_with_len, flat_map}
 use Rattle.std.proofs.lemmas.Bool.{cases_lt}
 use Rattle.std.proofs.lemmas.List.{get_or-map, length-append, get_or_append_left, get_or-append_right, length-take-le}
-use Rattle.nearest_all.specs.Nearest.{number_at}
-use Rattle.nearest_all.specs.Stretches.{start_of, AreCuts}
-use Rattle.nearest_all.proofs.Along.{starts_rise}
-use Rattle.nearest_all.proofs.Cutting.{flat_map_more}
+use Rattle.list_cuts.specs.Cuts.{number_at, start_of, AreCuts}
+use Rattle.row_kin.proofs.Starts.{starts_rise}
+use Rattle.row_kin.proofs.Cutting.{flat_map_more}
 use Rattle.row_kin.specs.declared.stretches.Ties.{Ties}
 use Rattle.row_kin.specs.Taken.{first_of, taken_by, parent_by, place_by}
 use Rattle.row_kin.specs.Alone.{ties_of, ties_alone, ties_by_stretches}

@@ -6,3 +6,9 @@ pub mod Chained
 pub mod Along
 pub mod Parts
 pub mod Joined
+pub mod Starts
+pub mod Cutting
+pub mod Unique
+pub mod Whole
+pub mod Answered
+pub mod Subtrees

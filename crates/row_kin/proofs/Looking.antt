@@ -4,11 +4,12 @@ use Rattle.std.specs.Prelude.{nat_eq, nat_lt, if◌then◌else◌}
 use Rattle.std.proofs.lemmas.Bool.{cases_lt}
 use Rattle.std.proofs.lemmas.Bool.Decides.{nat_tests}
 use Rattle.std.proofs.lemmas.List.FromFn.{get_or-map-range_with_len}
-use Rattle.nearest_all.specs.Nearest.{number_at, prev_below, behind}
-use Rattle.nearest_all.specs.Stretches.{IsNextUntil, IsBeginFrom}
-use Rattle.nearest_all.specs.Alone.{begin_from}
-use Rattle.nearest_all.proofs.Unique.{next_at, begin_from_is}
-use Rattle.nearest_all.proofs.Whole.{begin_is}
+use Rattle.list_cuts.specs.Cuts.{number_at}
+use Rattle.row_kin.specs.Nearest.{prev_below, behind}
+use Rattle.row_kin.specs.Searched.{IsNextUntil, IsBeginFrom}
+use Rattle.row_kin.specs.Cutoff.{begin_from}
+use Rattle.row_kin.proofs.Unique.{next_at, begin_from_is}
+use Rattle.row_kin.proofs.Whole.{begin_is}
 use Rattle.row_kin.specs.Taken.{taker, first_of, taken_by, parent_by, place_by, placed_by, Looks}
 
 abbrev bit : Bool → ℕ

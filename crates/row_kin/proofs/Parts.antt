@@ -8,8 +8,8 @@ use Rattle.std.proofs.lemmas.List.{get_or-map, length-map}
 use Rattle.std.proofs.lemmas.List.FromFn.{get_or-map-range_with_len, length-map-range_with_len}
 use Rattle.ast_rows.specs.NodeRows.{counts_of, lows_of}
 use Rattle.row_laws.specs.Climbed.{parents_by, place_at}
-use Rattle.nearest_all.specs.Nearest.{number_at}
-use Rattle.nearest_all.specs.Stretches.{IsNextUntil, IsBeginFrom}
+use Rattle.list_cuts.specs.Cuts.{number_at}
+use Rattle.row_kin.specs.Searched.{IsNextUntil, IsBeginFrom}
 use Rattle.row_kin.specs.declared.stretches.Ties.{Ties}
 use Rattle.row_kin.specs.Taken.{taker, first_of, taken_by, parent_by, place_by}
 use Rattle.row_kin.specs.Alone.{ties_of, ties_from}

@@ -6,10 +6,11 @@ use Rattle.std.proofs.lemmas.Bool.{cases_lt}
 use Rattle.std.proofs.lemmas.List.FromFn.{get_or-map-range_with_len, length-map-range_with_len}
 use Rattle.ast_rows.specs.NodeRows.{children_before, count_at, counts_of, low_at, lows_of}
 use Rattle.row_laws.specs.Climbed.{parent_at, parents_by, count_before, place_at}
-use Rattle.nearest_all.specs.Nearest.{number_at, prev_below, behind, begins}
-use Rattle.key_groups.specs.Grouped.{equal_before}
-use Rattle.near_levels.proofs.Answered.{parents_answered}
-use Rattle.near_levels.proofs.Subtrees.{begins_are_lows, parents_many, found, none, same_count}
+use Rattle.list_cuts.specs.Cuts.{number_at}
+use Rattle.row_kin.specs.Nearest.{prev_below, behind, begins}
+use Rattle.row_kin.specs.Taken.{equal_before}
+use Rattle.row_kin.proofs.Answered.{parents_answered}
+use Rattle.row_kin.proofs.Subtrees.{begins_are_lows, parents_many, found, none, same_count}
 use Rattle.row_kin.specs.Taken.{taker, first_of, taken_by, parent_by, place_by}
 use Rattle.row_kin.proofs.Looking.{eq_true, eq_false, lt_true, lt_false, taker_behind, is_first, place_root}
 

@@ -1,7 +1,7 @@
 -- What a row writes of those that it takes in.
 use Rattle.std.proofs.Common.{◌≡◌, ◌≢◌, ℕ, ◌+◌, ◌-◌, ◌<◌, ◌≤◌, ◌⊎◌, inl, inr, List, length, set, sym, ap, ◌∙◌, subst, arith, get_or-set_other, get_or-set_same}
 use Rattle.std.proofs.lemmas.Bool.{cases_lt}
-use Rattle.nearest_all.specs.Nearest.{number_at}
+use Rattle.list_cuts.specs.Cuts.{number_at}
 use Rattle.row_kin.specs.Taken.{taker, first_of, taken_by, parent_by, placed_by, Looks}
 use Rattle.row_kin.proofs.Looking.{takes_one, inside_ends, outside_stays, look_steps, is_first, one_more, one_here, parent_same, parent_new, place_same, place_new}
 

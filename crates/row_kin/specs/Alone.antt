@@ -3,8 +3,7 @@ use Rattle.std.specs.Prelude.{ℕ, ◌+◌, ◌-◌, List, length, map, flat_map
 use Rattle.std.specs.List.{range_with_len}
 use Rattle.ast_rows.specs.NodeRows.{low_at, count_at}
 use Rattle.row_laws.specs.Climbed.{parent_at, parents_by, place_at}
-use Rattle.nearest_all.specs.Nearest.{number_at}
-use Rattle.nearest_all.specs.Stretches.{start_of}
+use Rattle.list_cuts.specs.Cuts.{number_at, start_of}
 use Rattle.row_kin.specs.declared.stretches.Ties.{Ties}
 
 -- what is known of a row: its parent, the first row of its subtree, its place and how many children it has

@@ -1,7 +1,6 @@
 -- What four lists have of the rows while stretches of them are settled: parents, first rows, places and counts of children.
 use Rattle.std.specs.Prelude.{◌≡◌, ℕ, ◌+◌, ◌<◌, ◌≤◌, List, length, max}
-use Rattle.nearest_all.specs.Nearest.{number_at}
-use Rattle.nearest_all.specs.Stretches.{start_of}
+use Rattle.list_cuts.specs.Cuts.{number_at, start_of}
 use Rattle.row_kin.specs.Taken.{taker, first_of, taken_by, parent_by, place_by, Looks}
 
 -- the rows before `to` are done among themselves

@@ -1,7 +1,12 @@
 -- Rows in postorder take in the roots before them: what is known of a row when those before another one are done.
-use Rattle.std.specs.Prelude.{◌≡◌, ℕ, ◌+◌, ◌<◌, ◌≤◌, List, if◌then◌else◌, nat_eq, nat_lt}
-use Rattle.nearest_all.specs.Nearest.{number_at, nexts, begins}
-use Rattle.key_groups.specs.Grouped.{equal_before}
+use Rattle.std.specs.Prelude.{◌≡◌, ℕ, zero, suc, ◌+◌, ◌<◌, ◌≤◌, List, if◌then◌else◌, nat_eq, nat_lt}
+use Rattle.list_cuts.specs.Cuts.{number_at}
+use Rattle.row_kin.specs.Nearest.{nexts, begins}
+
+-- how many of the numbers before place i are x
+abbrev pub equal_before : List ℕ → ℕ → ℕ → ℕ
+equal_before ns zero x = 0
+equal_before ns (suc i) x = equal_before ns i x + (if nat_eq (number_at ns i) x then 1 else 0)
 
 -- the row that takes in row k: the next one whose subtree begins no later; how many rows there are where there is none
 abbrev pub taker : List ℕ → ℕ → ℕ

@@ -1,11 +1,10 @@
-//! All rows of a list, by one worker.
-ghost use Rattle.std.specs.Prelude.{◌≡◌, ◌≤◌, length, map, IfOk};
+//! All rows of a list, in one walk.
+ghost use Rattle.std.specs.Prelude.{◌≡◌, ◌≤◌, length, map};
 ghost use Rattle.std.specs.List.{range_with_len};
 ghost use Rattle.ast_rows.specs.NodeRows.{lows_of, counts_of};
 ghost use Rattle.row_laws.specs.Climbed.{parents_by, place_at};
 
 use crate::intake::{number_taken, take_in};
-use std::alloc::{AllocError, Global};
 
 /// What is known of rows, each a list by their numbers.
 #[derive(Drop)]
@@ -46,31 +45,4 @@ pub(crate) fn kin_into(
         places[i] = 0;
         counts[i] = intake.count;
     }
-}
-
-/// The kin of rows whose subtrees begin where `lows` says, in one pass. The only refusal is that memory is out.
-pub fn kin_alone(alloc: Global, lows: &[u32]) -> Result<Kin, AllocError>
-    requires few { length lows.now ≤ 4294967295 }
-    ensures parents { IfOk result (λ v. v.parents.items ≡ parents_by lows.now) }
-    ensures lows { IfOk result (λ v. v.lows.items ≡ lows_of (parents_by lows.now)) }
-    ensures places { IfOk result (λ v. v.places.items ≡ map (place_at (parents_by lows.now)) (range_with_len 0 (length lows.now))) }
-    ensures counts { IfOk result (λ v. v.counts.items ≡ counts_of (parents_by lows.now)) }
-{
-    let mut parents = vec![in alloc; 0; lows.len()]?;
-    let mut firsts = vec![in alloc; 0; lows.len()]?;
-    let mut places = vec![in alloc; 0; lows.len()]?;
-    let mut counts = vec![in alloc; 0; lows.len()]?;
-    kin_into(
-        lows,
-        parents.as_mut_slice(),
-        firsts.as_mut_slice(),
-        places.as_mut_slice(),
-        counts.as_mut_slice(),
-    );
-    Ok(Kin {
-        parents,
-        lows: firsts,
-        places,
-        counts,
-    })
 }

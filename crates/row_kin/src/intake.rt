@@ -1,6 +1,6 @@
 //! A row takes in the roots before it that lie in its subtree.
 ghost use Rattle.std.specs.Prelude.{◌≡◌, ℕ, ◌+◌, ◌-◌, ◌<◌, ◌≤◌, ◌⊎◌, true, false, length};
-ghost use Rattle.nearest_all.specs.Nearest.{number_at};
+ghost use Rattle.list_cuts.specs.Cuts.{number_at};
 ghost use Rattle.row_kin.specs.Taken.{first_of, taken_by, parent_by, placed_by, Looks};
 
 /// Where a row's subtree begins, and how many rows it takes in.

@@ -3,8 +3,7 @@ ghost use Rattle.std.specs.Prelude.{◌≡◌, ℕ, ◌+◌, ◌<◌, ◌≤◌,
 ghost use Rattle.std.specs.List.{range_with_len};
 ghost use Rattle.ast_rows.specs.NodeRows.{lows_of, counts_of};
 ghost use Rattle.row_laws.specs.Climbed.{parents_by, place_at};
-ghost use Rattle.nearest_all.specs.Nearest.{number_at};
-ghost use Rattle.nearest_all.specs.Stretches.{AreCuts, start_of};
+ghost use Rattle.list_cuts.specs.Cuts.{number_at, AreCuts, start_of};
 ghost use Rattle.row_kin.specs.Taken.{taker, first_of, taken_by, parent_by, placed_by};
 ghost use Rattle.row_kin.specs.Settles.{Done, DoneAlone, Stretched};
 ghost use Rattle.row_kin.specs.Alone.{ties_by_stretches};
@@ -91,8 +90,8 @@ fn settle(
     }
 }
 
-/// Settles all rows, where each stretch of them is done by itself: the stretches end where `ends` says, in order.
-pub fn settle_all(
+// Settles all rows, where each stretch of them is done by itself: the stretches end where `ends` says, in order.
+fn settle_all(
     lows: &[u32],
     ends: &[usize],
     parents: &mut [u32],

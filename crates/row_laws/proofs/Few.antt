@@ -1,11 +1,11 @@
 -- A tree has at most as many rows as tokens, and the program's own.
-use Rattle.std.proofs.Common.{◌≡◌, ℕ, zero, suc, ◌+◌, ◌-◌, ◌≤◌, Bool, true, false, ◌&&◌, List, [], ◌∷◌, ◌++◌, length, if◌then◌else◌, None, ◌∙◌, refl, sym, ap, arith, length-append}
+use Rattle.std.proofs.Common.{◌≡◌, ℕ, suc, ◌+◌, ◌-◌, ◌≤◌, Bool, true, false, ◌&&◌, List, [], ◌∷◌, ◌++◌, length, if◌then◌else◌, None, ◌∙◌, refl, ap, arith, length-append}
 use Rattle.source_meaning.specs.declared.kinds.Kind.TheVariants.{Program as ProgramKind}
-use Rattle.source_meaning.specs.Grammar.{Nonterminal, Prog, Call, Symbol, t, n, Production, left, right, Tree, node, Forest, done, leaf, tree, leaves, forest_leaves, ast, fn, param, block_braces, stmt_var, stmt_if, stmt_else, stmt_while, stmt_return, stmt_eval, a_assign, ot_or, nt_and, ct_cmp, st_add, st_minus, mt_mul, u_minus, u_unop, p_num, p_true, p_false, call_args, call_none}
+use Rattle.source_meaning.specs.Grammar.{Nonterminal, Prog, Call, Symbol, t, n, Production, left, right, Tree, node, Forest, done, leaf, tree, leaves, forest_leaves, ast, stmt_if, stmt_else}
 use Rattle.source_meaning.specs.Rows.{post}
 use Rattle.row_laws.specs.Marks.{Mark, mark}
-use Rattle.row_laws.specs.Parents.{climb, rows_after, rows_of}
-use Rattle.row_laws.specs.Emitted.{Given, Part, Told, own, tells, filled, emitted, ends, is_early, part, parts}
+use Rattle.row_laws.specs.Parents.{climb, rows_after}
+use Rattle.row_laws.specs.Emitted.{Given, Told, own, tells, filled, ends, is_early, part, parts}
 use Rattle.row_laws.proofs.Whole.{program_emitted}
 
 rows_many : (i : ℕ) (seen : List ℕ) (ms : List Mark) → length (rows_after i seen ms) ≡ length ms

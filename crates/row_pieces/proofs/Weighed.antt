@@ -14,7 +14,7 @@ use Rattle.row_pieces.specs.declared.held.Held.{Held}
 use Rattle.row_pieces.specs.declared.piece.Piece.{Piece}
 use Rattle.row_pieces.specs.declared.piece.Piece.TheVariants.{Cut, Bulk, Open as OpenPiece, Turn}
 use Rattle.row_pieces.specs.Numbers.{line_at}
-use Rattle.row_pieces.specs.Pieces.{Standing, made_of, cut_down, turned, acted, acts, cut_rows, closes, closes_all, pieces_of}
+use Rattle.row_pieces.specs.Pieces.{Standing, made_of, cut_down, turned, acted, acts, cut_rows, closes, closes_all, last_behind, pieces_of}
 use Rattle.row_pieces.specs.Reduced.{without_cut, cut_on, remains, may_cut, Reduced, nothing_yet, put, bulk, joined, filled, behind, cut_back, turn_back, add, add_all, reduced}
 use Rattle.row_pieces.specs.Sound.{IsSoundHeld, held_weight, weight_of, IsSound, AreSound, IsSingle, AreSingle, weight, weights, rows_of}
 use Rattle.row_pieces.specs.Stretches.{pieces_in}
@@ -32,13 +32,40 @@ cut_counts level waits (o ∷ os) count last = by (stays level waits o) (cut_cou
 
 acted_counts : (x : Piece) (s : Standing) → IsSingle x → (acted x s).count ≡ s.count + length (closes x s)
 acted_counts (Cut level waits) s h = cut_counts level waits s.stack s.count s.last
-acted_counts (Bulk rows size extends place own) s h = omega arith
+acted_counts (Bulk rows size extends place own) s h = let e = h.0 in omega arith
 acted_counts (OpenPiece bound back joinable place own) s h = omega arith
 acted_counts (Turn level place own) s h = omega arith
 
 pub counts : (xs : List Piece) (s : Standing) → AreSingle xs → (acts xs s).count ≡ s.count + length (closes_all xs s)
 counts [] s h = omega arith
 counts (x ∷ xs) s h = let e = counts xs (acted x s) h.1 in let g = acted_counts x s h.0 in let l = length-append (closes x s) (closes_all xs (acted x s)) in omega arith
+
+-- ---- the last closed row
+last_apart : (m : Made) (ms ns : List Made) → last_behind m (ms ++ ns) ≡ last_behind (last_behind m ms) ns
+last_apart m [] ns = refl
+last_apart m (x ∷ ms) ns = last_apart x ms ns
+
+cut_lasts : (level : ℕ) (waits : Bool) (os : List Open) (count : ℕ) (last : Made) → (cut_down level waits os count last).last ≡ last_behind last (cut_rows level waits os count)
+cut_lasts level waits [] count last = refl
+cut_lasts level waits (o ∷ os) count last = by (stays level waits o) (cut_lasts level waits os (suc count) (made_of o count))
+  where
+    by : (b : Bool) → (cut_down level waits os (suc count) (made_of o count)).last ≡ last_behind (made_of o count) (cut_rows level waits os (suc count)) →
+        (if b then record { stack = o ∷ os; count = count; last = last } else cut_down level waits os (suc count) (made_of o count)).last ≡ last_behind last (if b then [] else made_of o count ∷ cut_rows level waits os (suc count))
+    by true h = refl
+    by false h = h
+
+acted_lasts : (x : Piece) (s : Standing) → IsSingle x → (acted x s).last ≡ last_behind s.last (closes x s)
+acted_lasts (Cut level waits) s h = cut_lasts level waits s.stack s.count s.last
+acted_lasts (Bulk rows size extends place own) s h = let e : size + 0 ≡ size = omega arith in (λ i. record { place = place; own = own; size = size + (if h.1 i then s.last.size else 0) }) ∙ (λ i. record { place = place; own = own; size = e i })
+acted_lasts (OpenPiece bound back joinable place own) s h = refl
+acted_lasts (Turn level place own) s h = refl
+
+pub lasts : (xs : List Piece) (s : Standing) → AreSingle xs → (acts xs s).last ≡ last_behind s.last (closes_all xs s)
+lasts [] s h = refl
+lasts (x ∷ xs) s h =
+    lasts xs (acted x s) h.1
+    ∙ ap (λ m. last_behind m (closes_all xs (acted x s))) (acted_lasts x s h.0)
+    ∙ sym (last_apart s.last (closes x s) (closes_all xs (acted x s)))
 
 -- ---- open and closed rows together
 cut_weighs : (level : ℕ) (waits : Bool) (os : List Open) (count : ℕ) (last : Made) → rows_of (cut_down level waits os count last) ≡ count + length os
@@ -163,7 +190,7 @@ entry_plain : (e r k early back joinable : Bool) (level place own : ℕ) →
     × (weights (if e then Turn level place own ∷ [] else (if r then [] else (if k then Bulk 1 1 false place own ∷ [] else OpenPiece (if early then level else level - 1) back joinable place own ∷ []))) ≤ 1)
 entry_plain true r k early back joinable level place own = (((tt, tt), (tt, tt)), omega arith)
 entry_plain false true k early back joinable level place own = ((tt, tt), omega arith)
-entry_plain false false true early back joinable level place own = (((omega arith, tt), (refl, tt)), omega arith)
+entry_plain false false true early back joinable level place own = (((omega arith, tt), ((refl, refl), tt)), omega arith)
 entry_plain false false false early back joinable level place own = (((tt, tt), (tt, tt)), omega arith)
 
 pub piece_plain : (p : Production) (waits : Bool) (place level read : ℕ) → IsPlain (pieces_of p waits place level read) × (weights (pieces_of p waits place level read) ≤ 1)

@@ -3,7 +3,7 @@
 ghost use Rattle.std.specs.Prelude.{◌≡◌, ◌+◌, ◌<◌, ◌≤◌, ◌-◌, ◌*◌, ◌∷◌, ◌++◌, [], List, length, map, suc, true, false, ℕ};
 ghost use Rattle.source_meaning.specs.Grammar.{Production, Prog, Tree, left_parse, number_of};
 ghost use Rattle.row_walk.specs.Walk.{Open, Walk, made_by, start, walked};
-ghost use Rattle.row_pieces.specs.Pieces.{Standing, acts, closes_all, pieces, stood};
+ghost use Rattle.row_pieces.specs.Pieces.{Standing, acts, closes_all, last_behind, pieces, stood};
 ghost use Rattle.row_pieces.specs.Reduced.{reduced};
 ghost use Rattle.row_pieces.specs.Sound.{AllLeave, AreAbove, AreSingle, AreSound, IsSound, LeaveAlone, over, rows_of, weights};
 ghost use Rattle.row_pieces.specs.Steps.{IsCutOff};
@@ -38,10 +38,11 @@ pub fn stretches_leave_alone()
     ensures apart { (xs : List Piece) (upper whole : Standing) → AreSound xs → IsSound whole → IsCutOff (reduced xs) upper whole → (closes_all xs upper ≡ closes_all xs whole) × IsSound upper × (rows_of upper ≤ rows_of whole) }
 {}
 
-/// How many rows pieces close is by how much the count rises, where each bulk is one row. Open and closed rows together are at most more by the pieces' weights,
+/// How many rows pieces close is by how much the count rises, where each bulk is one row, and the last of these is the last one. Open and closed rows together are at most more by the pieces' weights,
 /// and what is left of pieces weighs no more than they do.
 pub fn rows_are_counted()
     ensures closed { (xs : List Piece) (s : Standing) → AreSingle xs → (acts xs s).count ≡ s.count + length (closes_all xs s) }
+    ensures last { (xs : List Piece) (s : Standing) → AreSingle xs → (acts xs s).last ≡ last_behind s.last (closes_all xs s) }
     ensures weighed { (xs : List Piece) (s : Standing) → rows_of (acts xs s) ≤ rows_of s + weights xs }
     ensures sound { (xs : List Piece) (s : Standing) → AreSound xs → IsSound s → IsSound (acts xs s) }
     ensures reduced { (xs : List Piece) → weights (reduced xs) ≤ weights xs }

@@ -109,6 +109,15 @@ impl Standing {
         Ok(Standing::of(rows, self.count, self.last))
     }
 
+    /// The same once more.
+    pub fn copy(&self, alloc: Global) -> Result<Standing, AllocError>
+        ensures { IfOk result (λ v. v ≡ self.now) }
+    {
+        let mut rows = Vec::new(alloc);
+        rows.extend_from_slice(self.open_rows())?;
+        Ok(Standing::of(rows, self.count, self.last))
+    }
+
     // Whether a cut closes the uppermost row.
     fn closes_top(&self, level: u32, waits: bool) -> bool
         ensures { result ≡ closes_first level waits self.now.stack }
@@ -151,6 +160,14 @@ impl Standing {
             out.push(self.last)?;
         }
         Ok(())
+    }
+
+    /// Closes all rows that are open, and writes them down.
+    pub fn close_all(&mut self, out: &mut Vec<Made>) -> Result<(), AllocError>
+        requires { rows_of self.old ≤ 4294967295 }
+        ensures { OnOk result (AreGoneOver (Cut 0 false ∷ []) self.old self.new out.old.items out.new.items) }
+    {
+        self.cut_into(0, false, out)
     }
 
     /// Closes all rows, and writes them down.

@@ -11,4 +11,4 @@ pub mod Ahead
 pub mod OwnRows
 pub mod Gives
 pub mod Wholes
-pub mod Stable
+pub mod Settled

@@ -1,22 +1,19 @@
 -- What the least key of a tree's rows tells.
-use Rattle.std.proofs.Common.{◌≡◌, ℕ, zero, suc, ◌+◌, ◌-◌, ◌/◌, ◌%◌, ◌^◌, ◌<◌, ◌≤◌, ◌⊎◌, inl, inr, Bool, true, false, List, [], ◌∷◌, length, map, min, Option, Some, None, sym, ◌∙◌, subst, arith}
+use Rattle.std.proofs.Common.{◌≡◌, ℕ, zero, suc, ◌+◌, ◌-◌, ◌/◌, ◌%◌, ◌^◌, ◌<◌, ◌≤◌, ◌⊎◌, inl, inr, Bool, true, false, List, [], ◌∷◌, length, map, min, Option, Some, None, sym, subst, arith}
 use Rattle.std.specs.Prelude.{fold}
 use Rattle.std.specs.List.{range_with_len}
 use Rattle.std.proofs.lemmas.Bool.{cases_lt}
 use Rattle.source_meaning.specs.declared.kinds.Kind.{Kind}
 use Rattle.source_meaning.specs.declared.kinds.Kind.TheVariants.{IfElse, Assign, Param}
 use Rattle.source_meaning.specs.Grammar.{Prog, Tree, ast}
-use Rattle.source_meaning.specs.Rows.{Row, post}
 use Rattle.source_meaning.specs.Scope.{fault_if, earliest}
 use Rattle.source_meaning.specs.Shape.{shape_faults}
-use Rattle.ast_rows.specs.NodeRows.{token_word}
 use Rattle.row_laws.specs.Marks.{Mark}
 use Rattle.row_laws.specs.Faults.{number_or}
 use Rattle.row_laws.specs.Faulted.{Tells, fault_by, faults_at, fault_keys, key_of}
-use Rattle.row_laws.specs.Climbed.{mark_at, settled_at, row_by_lists}
-use Rattle.tree_passes.specs.Columns.{numbers_of}
-use Rattle.tree_passes.specs.TreeColumns.{AreSmall, AreTreeColumns, IsLeastKey, IsSmall}
-use Rattle.tree_passes.proofs.Ranges.{many_of}
+use Rattle.row_laws.specs.Climbed.{mark_at, settled_at}
+use Rattle.row_columns.specs.Stretches.{AreSmall, IsSmall}
+use Rattle.tree_passes.specs.TreeColumns.{IsLeastKey}
 
 abbrev Fits : ℕ → Type 0
 Fits k = (k < 18446744073709551615) → k / 1024 < 4294967296
@@ -60,19 +57,13 @@ key_fits ms small key e =
     (fit_fold 18446744073709551615 (fault_keys ms) (λ l. absurd (omega arith))
     (fit_range (λ k. key_of (faults_at ms k)) 0 (length ms) (λ k a l. fit_by ms k (mark_at ms k).kind (number_or (settled_at ms k)) (mark_at ms k).size (below (settled_at ms k) (small k (omega arith))))))
 
-pub least_is : (r : Tree Prog) (kinds : List Kind) (sizes words : List ℕ) (key : ℕ) (known : AreTreeColumns r kinds sizes words) → key ≡ fold min (2 ^ 64 - 1) (fault_keys known.marks) → IsLeastKey r key
-least_is r kinds sizes words key known e = record { told = subst (Tells (shape_faults (ast r))) (sym e) known.faults; fits = key_fits known.marks known.small key e }
+pub numbers_fit : (ms : List Mark) → AreSmall ms → (k : ℕ) → k < length ms → number_or (settled_at ms k) < 2 ^ 32
+numbers_fit ms small k h = below (settled_at ms k) (small k h)
+
+pub least_is : (r : Tree Prog) (ms : List Mark) (key : ℕ) → AreSmall ms → Tells (shape_faults (ast r)) (fold min (2 ^ 64 - 1) (fault_keys ms)) → key ≡ fold min (2 ^ 64 - 1) (fault_keys ms) → IsLeastKey r key
+least_is r ms key small tells e = record { told = subst (Tells (shape_faults (ast r))) (sym e) tells; fits = key_fits ms small key e }
 
 -- ---- the answer
-pub few_kinds : (r : Tree Prog) (kinds : List Kind) (sizes words : List ℕ) → AreTreeColumns r kinds sizes words → length kinds ≤ 536870914
-few_kinds r kinds sizes words known = let n = many_of (λ k. (mark_at known.marks k).kind) (length known.marks) kinds known.columns.kinds_are in let f = known.few in omega arith
-
-pub many_sizes : (r : Tree Prog) (kinds : List Kind) (sizes words : List ℕ) → AreTreeColumns r kinds sizes words → length sizes ≡ length kinds
-many_sizes r kinds sizes words known = many_of (λ k. (mark_at known.marks k).size) (length known.marks) sizes known.columns.sizes_are ∙ sym (many_of (λ k. (mark_at known.marks k).kind) (length known.marks) kinds known.columns.kinds_are)
-
-pub many_tokens : (r : Tree Prog) (kinds : List Kind) (sizes words : List ℕ) → AreTreeColumns r kinds sizes words → length words ≡ length kinds
-many_tokens r kinds sizes words known = many_of (λ k. token_word (settled_at known.marks k)) (length known.marks) words known.columns.tokens_are ∙ sym (many_of (λ k. (mark_at known.marks k).kind) (length known.marks) kinds known.columns.kinds_are)
-
 pub no_fault : (r : Tree Prog) (key : ℕ) → key ≡ 2 ^ 64 - 1 → IsLeastKey r key → shape_faults (ast r) ≡ []
 no_fault r key e known = by known.told
   where
@@ -86,6 +77,3 @@ some_fault r key l known = by known.told
     by : Tells (shape_faults (ast r)) key → earliest (shape_faults (ast r)) ≡ Some (record { at = key / 1024; code = key % 1024 })
     by (inl h) = absurd (let e = h.1 in omega arith)
     by (inr h) = h.1
-
-pub rows_are : (r : Tree Prog) (kinds : List Kind) (sizes words : List ℕ) (known : AreTreeColumns r kinds sizes words) (rows_ : List Row) → rows_ ≡ map (row_by_lists known.marks) (numbers_of known.marks) → rows_ ≡ post (ast r)
-rows_are r kinds sizes words known rows_ e = e ∙ sym known.rows

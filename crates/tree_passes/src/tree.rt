@@ -1,5 +1,5 @@
 //! The rows of a syntax tree.
-ghost use Rattle.std.specs.Prelude.{◌≡◌, ℕ, suc, ◌-◌, ◌/◌, ◌%◌, ◌<◌, ◌≤◌, ◌^◌, List, [], None, Some, Err, length, map, fold, min, IfOk};
+ghost use Rattle.std.specs.Prelude.{◌≡◌, ℕ, ◌-◌, ◌/◌, ◌%◌, ◌<◌, ◌≤◌, ◌^◌, [], None, Some, Err, List, length, map, IfOk};
 ghost use Rattle.source_meaning.specs.Lexemes.{lexical_fault, tokens as tokens_of};
 ghost use Rattle.source_meaning.specs.Grammar.{Prog, Tree, ast, leaves, left_parse};
 ghost use Rattle.source_meaning.specs.Rows.{post};
@@ -7,141 +7,56 @@ ghost use Rattle.source_meaning.specs.Scope.{earliest};
 ghost use Rattle.source_meaning.specs.Shape.{shape_faults};
 ghost use Rattle.ast_rows.specs.TokenRows.{row_of};
 ghost use Rattle.row_laws.specs.Marks.{Mark};
-ghost use Rattle.row_laws.specs.Standing.{marks_in};
 ghost use Rattle.row_laws.specs.Climbed.{row_by_lists};
+ghost use Rattle.row_walk.specs.Walk.{made_by};
+ghost use Rattle.list_cuts.specs.Cuts.{AreCuts};
+ghost use Rattle.row_pieces.specs.Pieces.{no_row};
+ghost use Rattle.row_columns.specs.TokensOf.{AreTokensOf};
+ghost use Rattle.row_columns.specs.RowFaults.{least_in};
+ghost use Rattle.row_columns.specs.Stretches.{AreRowColumns, AreSmall, AreStretch, tree_marks};
+ghost use Rattle.row_kin.specs.Alone.{ties_by_stretches};
 ghost use Rattle.tree_passes.specs.Columns.{numbers_of};
-ghost use Rattle.row_laws.specs.Faulted.{fault_keys as keys_of};
-ghost use Rattle.tree_passes.specs.LineColumns.{AreNumbers};
-ghost use Rattle.tree_passes.specs.PointRows.{AreGroups, spot};
-ghost use Rattle.tree_passes.specs.Points.{Covers};
-ghost use Rattle.tree_passes.specs.TokensOf.{AreOwned, no_token};
-ghost use Rattle.tree_passes.specs.TreeColumns.{AreClosing, AreRowColumns, AreSmall, AreTreeColumns, IsLeastKey, IsParseOf};
+ghost use Rattle.tree_passes.specs.Kin.{AreTies};
+ghost use Rattle.tree_passes.specs.Stretches.{IsCut};
+ghost use Rattle.tree_passes.specs.TreeColumns.{IsLeastKey, IsParseOf};
 ghost use Rattle.tree_passes.specs.declared.fault.ShapeFault.TheVariants.{Diagnostic as Told};
 
-use crate::climbing::{least_fault, lows_all, parents_all, tokens_all};
+use crate::cuts::stretch_ends;
 use crate::fault::ShapeFault;
-use crate::joining::{made_all, makers, row_sums};
+use crate::kin::{Found, find_all, join_found};
 use crate::laid::lay;
-use crate::levels::near;
-use crate::ordering::order;
-use crate::points::{Point, points_all};
-use crate::reading::owned_all;
-use crate::row_columns::{ends_all, kinds_all, sizes_all, words_all};
-use crate::siblings::count_siblings;
+use crate::owned::owned_all;
+use crate::standings::{hand_out, reduce_all};
+use crate::starts::{Parse, add_up, tally_all};
+use crate::walked::{columns_all, join_columns};
 use ast_rows::{Rows, Tokens};
-use near_stretches::all_nearest;
-use nearest_all::Nearest;
 use par_passes::Passes;
-use source_meaning::Kind;
+use row_columns::{Columns, Source, add_program, stretches_are_rows, stretches_tell_faults};
+use row_kin::{Kin, kin_settled};
+use row_walk::walks_give_rows;
 use std::alloc::AllocError;
 
-// How many rows the points before each one have, and the points in the order in which their rows are closed.
-#[derive(Drop)]
-struct Closing {
-    rows: Vec<u64>,
-    order: Vec<u32>,
-}
-
-fn closing_order(
+// The columns of the rows that a walk closes, by stretches.
+fn walk_columns(
     crew: &impl Passes,
-    numbers: &[u16],
-    points: &[Point],
-    next: &[u32],
-    heads: &[u32],
-) -> Result<Closing, AllocError>
-    requires few { length numbers.now ≤ 536870913 }
-    requires points { Covers numbers.now 0 (suc (length numbers.now)) points.now }
-    requires groups { AreGroups points.now next.now heads.now }
-    requires parsed { (r : Tree Prog) × AreNumbers (left_parse r) numbers.now }
-    ensures { IfOk result (λ v. (r : Tree Prog) → AreNumbers (left_parse r) numbers.now → AreClosing (left_parse r) points.now v.rows.items v.order.items) }
-{
-    let made = made_all(crew, numbers, points, next, heads)?;
-    let rows = row_sums(crew, made.as_slice())?;
-    let makers = makers(crew, made.as_slice())?;
-    let ends = ends_all(crew, rows.as_slice(), next, makers.as_slice())?;
-    let most = points.len().saturating_sub(2) as u32;
-    let order = order(crew, makers.as_slice(), ends.as_slice(), most)?;
-    Ok(Closing { rows, order })
-}
-
-// Kinds, sizes and own tokens of the rows.
-#[derive(Drop)]
-struct Columns {
-    kinds: Vec<Kind>,
-    sizes: Vec<u32>,
-    tokens: Vec<u32>,
-}
-
-// The columns of the rows in the order of closing.
-fn find_columns(
-    crew: &impl Passes,
-    text: &[u8],
-    tokens: &Tokens,
-    owned: &[u32],
-    numbers: &[u16],
-    points: &[Point],
-    nearest: &Nearest,
-    closing: &Closing,
+    source: &Source<'_>,
+    ends: &[usize],
 ) -> Result<Columns, AllocError>
-    requires small { length text.now ≤ 2 ^ 24 }
-    requires few { length numbers.now ≤ 536870913 }
-    requires order { length closing.now.order.items ≤ 536870913 }
-    requires lexical { lexical_fault text.now ≡ None }
-    requires tokens { tokens.now ≡ map row_of (tokens_of text.now) }
-    requires points { Covers numbers.now 0 (suc (length numbers.now)) points.now }
-    requires groups { AreGroups points.now nearest.now.next.items nearest.now.begin.items }
-    ensures { IfOk result (λ v. (r : Tree Prog) → IsParseOf text.now numbers.now r → AreClosing (left_parse r) points.now closing.now.rows.items closing.now.order.items → AreOwned text.now owned.now → AreRowColumns (marks_in no_token (left_parse r) (leaves r) (map (spot points.now) closing.now.order.items)) v.kinds.items v.sizes.items v.tokens.items) }
+    requires cut { IsCut source.now.numbers.now ends.now }
+    requires tokens { AreTokensOf source.now.text.now source.now.starts.now source.now.lengths.now source.now.owned.now }
+    ensures { IfOk result (λ v. (r : Tree Prog) → IsParseOf source.now.text.now source.now.numbers.now r → AreStretch (left_parse r) (leaves r) 0 no_row (made_by (left_parse r)) v.kinds.items v.lows.items v.tokens.items) }
 {
-    let (next, heads) = (nearest.next.as_slice(), nearest.begin.as_slice());
-    let order = closing.order.as_slice();
-    let kinds = kinds_all(
-        crew,
-        text,
-        tokens.starts(),
-        tokens.lengths(),
-        owned,
-        numbers,
-        points,
-        next,
-        order,
-    )?;
-    let sizes = sizes_all(
-        crew,
-        numbers,
-        points,
-        closing.rows.as_slice(),
-        next,
-        heads,
-        order,
-    )?;
-    let words = words_all(crew, owned, numbers, points, next, heads, order)?;
-    let tokens = tokens_all(crew, kinds.as_slice(), words.as_slice())?;
-    Ok(Columns {
-        kinds,
-        sizes,
-        tokens,
-    })
-}
-
-// The rows of these columns.
-fn lay_rows(crew: &impl Passes, columns: Columns) -> Result<Rows, AllocError>
-    requires few { length columns.kinds.items ≤ 536870914 }
-    requires sizes { length columns.sizes.items ≡ length columns.kinds.items }
-    requires tokens { length columns.tokens.items ≡ length columns.kinds.items }
-    ensures { IfOk result (λ v. (ms : List Mark) → AreRowColumns ms columns.kinds.items columns.sizes.items columns.tokens.items → AreSmall ms → v ≡ map (row_by_lists ms) (numbers_of ms)) }
-{
-    let lows = lows_all(crew, columns.sizes.as_slice())?;
-    let nearest = all_nearest(crew, lows.as_slice(), lows.as_slice())?;
-    let parents = parents_all(crew, nearest.next.as_slice())?;
-    let siblings = count_siblings(crew, nearest.next.as_slice())?;
-    Ok(lay(
-        columns.kinds,
-        parents,
-        columns.tokens,
-        siblings.places,
-        nearest.begin,
-        siblings.counts,
-    ))
+    let parse = Parse {
+        numbers: source.numbers,
+        ends,
+    };
+    let before_last = ends.len().saturating_sub(1);
+    let tallies = tally_all(crew, parse, before_last)?;
+    let starts = add_up(crew.alloc(), parse, tallies.as_slice())?;
+    let lists = reduce_all(crew, parse, starts.as_slice(), before_last)?;
+    let handed = hand_out(crew.alloc(), parse, lists.as_slice())?;
+    let parts = columns_all(crew, source, ends, starts.as_slice(), handed.as_slice())?;
+    join_columns(crew.alloc(), source, ends, parts.as_slice())
 }
 
 // The columns of the rows of the text's tree.
@@ -155,42 +70,52 @@ fn tree_columns(
     requires lexical { lexical_fault text.now ≡ None }
     requires tokens { tokens.now ≡ map row_of (tokens_of text.now) }
     requires parsed { (r : Tree Prog) × IsParseOf text.now numbers.now r }
-    ensures { IfOk result (λ v. (r : Tree Prog) → IsParseOf text.now numbers.now r → AreTreeColumns r v.kinds.items v.sizes.items v.tokens.items) }
+    ensures { IfOk result (λ v. (r : Tree Prog) → IsParseOf text.now numbers.now r → AreRowColumns (tree_marks r) v.kinds.items v.lows.items v.tokens.items) }
 {
-    let points = points_all(crew, numbers)?;
-    let points = points.as_slice();
-    let nearest = near(crew, points)?;
-    let closing = closing_order(
-        crew,
-        numbers,
-        points,
-        nearest.next.as_slice(),
-        nearest.begin.as_slice(),
-    )?;
+    walks_give_rows();
     let owned = owned_all(crew, tokens.kinds())?;
-    find_columns(
-        crew,
+    let source = Source {
         text,
-        tokens,
-        owned.as_slice(),
+        starts: tokens.starts(),
+        lengths: tokens.lengths(),
+        owned: owned.as_slice(),
         numbers,
-        points,
-        &nearest,
-        &closing,
-    )
+    };
+    let ends = stretch_ends(crew, numbers.len())?;
+    let columns = walk_columns(crew, &source, ends.as_slice())?;
+    add_program(columns)
 }
 
-// The least key of the rows' faults.
-fn least_key(crew: &impl Passes, columns: &Columns) -> Result<u64, AllocError>
-    requires few { length columns.now.kinds.items ≤ 536870914 }
-    requires sizes { length columns.now.sizes.items ≡ length columns.now.kinds.items }
-    ensures { IfOk result (λ key. (ms : List Mark) → AreRowColumns ms columns.now.kinds.items columns.now.sizes.items columns.now.tokens.items → AreSmall ms → key ≡ fold min (2 ^ 64 - 1) (keys_of ms)) }
+// The kin of the rows, by stretches that end at these places, and the least key of their faults.
+fn find(crew: &impl Passes, columns: &Columns, ends: &[usize]) -> Result<Found, AllocError>
+    requires few { length columns.now.kinds.items ≤ 4294967295 }
+    requires lows { length columns.now.lows.items ≡ length columns.now.kinds.items }
+    requires cuts { AreCuts ends.now (length columns.now.kinds.items) }
+    requires count { length ends.now < 2 ^ 62 }
+    ensures ties { IfOk result (λ v. AreTies (ties_by_stretches columns.now.lows.items ends.now) v.kin.parents.items v.kin.lows.items v.kin.places.items v.kin.counts.items) }
+    ensures least { IfOk result (λ v. v.least ≡ least_in columns.now.kinds.items columns.now.lows.items columns.now.tokens.items 0 (length columns.now.kinds.items)) }
 {
-    least_fault(
-        crew,
-        columns.kinds.as_slice(),
-        columns.sizes.as_slice(),
-        columns.tokens.as_slice(),
+    let parts = find_all(crew, columns, ends)?;
+    join_found(crew.alloc(), columns, ends, parts.as_slice())
+}
+
+// The rows of these columns, from what their stretches know of the kin.
+fn lay_rows(columns: Columns, ends: &[usize], kin: Kin) -> Rows
+    requires few { length columns.kinds.items ≤ 4294967295 }
+    requires lows { length columns.lows.items ≡ length columns.kinds.items }
+    requires tokens { length columns.tokens.items ≡ length columns.kinds.items }
+    requires cuts { AreCuts ends.now (length columns.kinds.items) }
+    requires ties { AreTies (ties_by_stretches columns.lows.items ends.now) kin.parents.items kin.lows.items kin.places.items kin.counts.items }
+    ensures { (ms : List Mark) → AreRowColumns ms columns.kinds.items columns.lows.items columns.tokens.items → AreSmall ms → result ≡ map (row_by_lists ms) (numbers_of ms) }
+{
+    let kin = kin_settled(columns.lows.as_slice(), ends, kin);
+    lay(
+        columns.kinds,
+        kin.parents,
+        columns.tokens,
+        kin.places,
+        kin.lows,
+        kin.counts,
     )
 }
 
@@ -205,16 +130,21 @@ fn told(key: u64) -> ShapeFault
     }
 }
 
-// The rows, or the fault that the key stands for.
-fn answer(crew: &impl Passes, columns: Columns, key: u64) -> Result<Rows, ShapeFault>
-    requires known { (r : Tree Prog) × AreTreeColumns r columns.kinds.items columns.sizes.items columns.tokens.items × IsLeastKey r key }
-    ensures ok { IfOk result (λ v. (r : Tree Prog) → AreTreeColumns r columns.kinds.items columns.sizes.items columns.tokens.items → IsLeastKey r key → (shape_faults (ast r) ≡ []) × (v ≡ post (ast r))) }
-    ensures fault { (code at : ℕ) → result ≡ Err (Told code at) → (r : Tree Prog) → IsLeastKey r key → earliest (shape_faults (ast r)) ≡ Some (record { at = at; code = code }) }
+// The rows, or the fault that the least key stands for.
+fn answer(columns: Columns, ends: &[usize], found: Found) -> Result<Rows, ShapeFault>
+    requires few { length columns.kinds.items ≤ 4294967295 }
+    requires lows { length columns.lows.items ≡ length columns.kinds.items }
+    requires tokens { length columns.tokens.items ≡ length columns.kinds.items }
+    requires cuts { AreCuts ends.now (length columns.kinds.items) }
+    requires ties { AreTies (ties_by_stretches columns.lows.items ends.now) found.kin.parents.items found.kin.lows.items found.kin.places.items found.kin.counts.items }
+    requires known { (r : Tree Prog) × IsLeastKey r found.least }
+    ensures ok { IfOk result (λ v. (r : Tree Prog) → AreRowColumns (tree_marks r) columns.kinds.items columns.lows.items columns.tokens.items → AreSmall (tree_marks r) → IsLeastKey r found.least → (shape_faults (ast r) ≡ []) × (v ≡ map (row_by_lists (tree_marks r)) (numbers_of (tree_marks r)))) }
+    ensures fault { (code at : ℕ) → result ≡ Err (Told code at) → (r : Tree Prog) → IsLeastKey r found.least → earliest (shape_faults (ast r)) ≡ Some (record { at = at; code = code }) }
 {
-    if key == u64::MAX {
-        Ok(lay_rows(crew, columns)?)
+    if found.least == u64::MAX {
+        Ok(lay_rows(columns, ends, found.kin))
     } else {
-        Err(told(key))
+        Err(told(found.least))
     }
 }
 
@@ -234,7 +164,11 @@ pub fn rows(
     ensures ok { IfOk result (λ v. (r : Tree Prog) → IsParseOf text.now parse.now r → (shape_faults (ast r) ≡ []) × (v ≡ post (ast r))) }
     ensures fault { (code at : ℕ) → result ≡ Err (Told code at) → (r : Tree Prog) → IsParseOf text.now parse.now r → earliest (shape_faults (ast r)) ≡ Some (record { at = at; code = code }) }
 {
+    walks_give_rows();
+    stretches_are_rows();
+    stretches_tell_faults();
     let columns = tree_columns(crew, text, tokens, parse)?;
-    let key = least_key(crew, &columns)?;
-    answer(crew, columns, key)
+    let ends = stretch_ends(crew, columns.kinds.len())?;
+    let found = find(crew, &columns, ends.as_slice())?;
+    answer(columns, ends.as_slice(), found)
 }

@@ -1,6 +1,6 @@
 use Rattle.row_columns.proofs.Fitting.{walk_fits}
 use Rattle.row_columns.proofs.Joined.{stretches_join}
-use Rattle.row_columns.proofs.Wholes.{columns_many, columns_whole, marks_small}
+use Rattle.row_columns.proofs.Wholes.{columns_whole, marks_small}
 use Rattle.row_columns.proofs.laws.stretches_are_rows.Goals as goal
 
 pub returns-clause-together : goal.returns-clause-together
@@ -11,9 +11,6 @@ returns-clause-whole c = columns_whole
 
 pub returns-clause-small : goal.returns-clause-small
 returns-clause-small c = marks_small
-
-pub returns-clause-many : goal.returns-clause-many
-returns-clause-many c = columns_many
 
 pub returns-clause-fit : goal.returns-clause-fit
 returns-clause-fit c = walk_fits

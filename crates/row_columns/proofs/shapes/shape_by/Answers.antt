@@ -1,6 +1,6 @@
 use Rattle.std.proofs.Common.{◌∙◌}
 use Rattle.row_columns.specs.Shapes.{shape_of}
-use Rattle.row_columns.proofs.Tables.{table_there, table_past}
+use Rattle.row_pieces.proofs.TableOf.{table_there, table_past}
 use Rattle.row_columns.proofs.shapes.shape_by.Goals as goal
 
 pub returns-in-Some : goal.returns-in-Some

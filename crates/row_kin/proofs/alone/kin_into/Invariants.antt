@@ -1,6 +1,6 @@
 -- What the loop of `kin_into` keeps.
 use Rattle.std.proofs.Common.{◌≡◌, ℕ, ◌<◌}
-use Rattle.nearest_all.specs.Nearest.{number_at}
+use Rattle.list_cuts.specs.Cuts.{number_at}
 use Rattle.row_kin.specs.Taken.{first_of, taken_by, parent_by, place_by}
 use Rattle.row_kin.proofs.alone.kin_into.Given as goal
 

@@ -2,7 +2,7 @@
 use Rattle.std.proofs.Common.{◌≡◌, ℕ, ◌+◌, ◌-◌, ◌<◌, ◌≤◌, ◌⊎◌, inl, inr, length, ◌∙◌, refl, arith}
 use Rattle.std.specs.Prelude.{slice_index_or}
 use Rattle.std.proofs.lemmas.Bool.{cases_lt}
-use Rattle.nearest_all.specs.Nearest.{number_at}
+use Rattle.list_cuts.specs.Cuts.{number_at}
 use Rattle.row_kin.specs.Taken.{taker, first_of, parent_by}
 use Rattle.row_kin.proofs.Looking.{look_ends, none_outside, parent_same, taken_few}
 use Rattle.row_kin.proofs.Writing.{set_other, taken_top, look_more, top_falls, count_falls, none_left, roots_taken}

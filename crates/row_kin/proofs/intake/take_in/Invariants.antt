@@ -1,6 +1,6 @@
 -- What the loop of `take_in` keeps, and why it ends.
 use Rattle.std.proofs.Common.{◌≡◌, ℕ, ◌+◌, ◌<◌, ◌≤◌}
-use Rattle.nearest_all.specs.Nearest.{number_at}
+use Rattle.list_cuts.specs.Cuts.{number_at}
 use Rattle.row_kin.specs.Taken.{taken_by, parent_by, Looks}
 use Rattle.row_kin.proofs.intake.take_in.Given as goal
 

@@ -1,6 +1,6 @@
 -- What the loop of `settle` keeps, and why it ends.
 use Rattle.std.proofs.Common.{◌≡◌, ℕ, ◌-◌, ◌≤◌}
-use Rattle.nearest_all.specs.Nearest.{number_at}
+use Rattle.list_cuts.specs.Cuts.{number_at}
 use Rattle.row_kin.specs.Settles.{Settling}
 use Rattle.row_kin.proofs.settling.settle.Given as goal
 

@@ -1,7 +1,7 @@
 -- The goals of `settle_all` that stay open.
 use Rattle.std.proofs.Common.{◌≡◌, ℕ, length, ◌∙◌, subst, arith}
-use Rattle.nearest_all.specs.Stretches.{start_of}
-use Rattle.nearest_all.proofs.Along.{start_more}
+use Rattle.list_cuts.specs.Cuts.{start_of}
+use Rattle.row_kin.proofs.Starts.{start_more}
 use Rattle.row_kin.specs.Settles.{Done}
 use Rattle.row_kin.proofs.Along.{stretches_left}
 use Rattle.row_kin.proofs.Told.{parents_told, firsts_told, places_told, counts_told}

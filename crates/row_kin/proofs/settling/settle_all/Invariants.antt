@@ -1,6 +1,6 @@
 -- What the loop of `settle_all` keeps.
 use Rattle.std.proofs.Common.{◌≡◌, length}
-use Rattle.nearest_all.specs.Stretches.{start_of}
+use Rattle.list_cuts.specs.Cuts.{start_of}
 use Rattle.row_kin.specs.Settles.{Done, Stretched}
 use Rattle.row_kin.proofs.settling.settle_all.Given as goal
 

@@ -1,6 +1,6 @@
 -- What the loop of `shift` keeps.
 use Rattle.std.proofs.Common.{◌≡◌, ℕ, ◌+◌, ◌<◌, ◌≤◌}
-use Rattle.nearest_all.specs.Nearest.{number_at}
+use Rattle.list_cuts.specs.Cuts.{number_at}
 use Rattle.row_kin.proofs.stretches.shift.Given as goal
 
 abbrev pub invariant-loop-n : goal.invariant-loop-n
