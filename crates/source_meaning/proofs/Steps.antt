@@ -2,7 +2,7 @@
 use Rattle.std.proofs.Common.{◌≡◌, ℕ, zero, suc, ◌+◌, ◌-◌, ◌≤◌, List, [], ◌∷◌, ◌++◌, Option, Some, None, option_map, Result, Ok, Bor, slice_set, replicate, length, map, nat_lt, false, refl, sym, ap, subst, ◌∙◌, arith}
 use Rattle.std.proofs.lemmas.List.{append_assoc, append-nil}
 use Rattle.std.specs.Global.{Box, Vec}
-use Rattle.source_meaning.specs.Ast.{Expr as ExprTree, call, unary, binary, and, or, assign, Args as ArgsTree, no_args, arg, Stmt as StmtTree, var, if_only, if_else, while, return, block, eval, stmt, Function as FunctionTree}
+use Rattle.source_meaning.specs.Ast.{Expr as ExprTree, call, unary, binary, and, or, assign, Args as ArgsTree, no_args, arg, Stmt as StmtTree, var, if_only, if_else, while, return, block, eval, no_stmts, stmt, Function as FunctionTree, Program}
 use Rattle.source_meaning.specs.Operators.{unary_value, binary_value}
 use Rattle.source_meaning.specs.Scope.{Scope, function_of, behind, inner, variables_in, body_scope, no_scope}
 use Rattle.source_meaning.specs.Frames.{frame}
@@ -10,9 +10,9 @@ use Rattle.source_meaning.specs.Meaning.{Run, gives, stops, ◌>>=◌, Table, Wo
 use Rattle.source_meaning.specs.Trees.{expr_of, args_of, stmt_of, stmts_of}
 use Rattle.source_meaning.specs.Numbering.{next_in}
 use Rattle.source_meaning.specs.Running.{named, name_of, variable_named, scope_with, stored_numbered}
-use Rattle.source_meaning.specs.Resuming.{opened, with_table, stacked, onwards, turned, resume, leave, world_in, run_in, run_all_in, IsChosen, condition_of, body_of}
+use Rattle.source_meaning.specs.Resuming.{Opened, opened, with_table, stacked, onwards, turned, resume, leave, world_in, run_in, run_all_in, IsChosen, condition_of, body_of}
 use Rattle.source_meaning.specs.Weights.{expr_weight, stmt_weight, turns_weight, heaviest, call_weight, rests_weight}
-use Rattle.source_meaning.specs.Walking.{Gives, EvaluatesThen, Evaluates, Computes, Opens, Runs, RunsAll, Resumes, program_in, with_value, settled, evaluated_then, ran, weigh, weigh_rests, weight_of_call}
+use Rattle.source_meaning.specs.Walking.{Follows, HasValue, Gives, EvaluatesThen, Evaluates, Computes, Opens, Runs, RunsAll, Resumes, program_in, with_value, settled, evaluated_then, ran, weigh, weigh_rests, weight_of_call}
 use Rattle.source_meaning.specs.declared.trees.Expr.{Expr}
 use Rattle.source_meaning.specs.declared.trees.Args.{Args}
 use Rattle.source_meaning.specs.declared.trees.Stmt.{Stmt}
@@ -51,6 +51,20 @@ other_behind (Return' at e) ns next after not is = ap (λ n. scope_with ns n) (s
 other_behind (Block at ss) ns next after not is = ap (λ n. scope_with ns n) (sym is)
 other_behind (Eval e) ns next after not is = ap (λ n. scope_with ns n) (sym is)
 
+-- statements that come before other steps
+pub follows_some : (r s : Rests) (q : PlacedAll) → stacked s ≡ RunAll q ∷ stacked r → Follows r q s
+follows_some r s q is = record {
+  same = λ p turns o x. ap (λ k. elim x [ None ↦ resume p turns k o 0 | Some v ↦ leave p turns k v ]) is;
+  fewer = λ fs turns calls. omega (arith, ap (λ k. rests_weight fs turns calls k) is);
+}
+
+pub follows_none : (r : Rests) (q : PlacedAll) → stmts_of q.statements.now ≡ no_stmts → Follows r q r
+follows_none r q none = record { same = nothing; fewer = λ fs turns calls. omega arith }
+  where
+    nothing : (p : Program) (turns : ℕ) (o : Opened) (x : Option ℕ) → ◌≡◌ {A = Outcome} (elim x [ None ↦ resume p turns (stacked r) o 0 | Some v ↦ leave p turns (stacked r) v ]) (elim x [ None ↦ resume p turns (RunAll q ∷ stacked r) o 0 | Some v ↦ leave p turns (RunAll q ∷ stacked r) v ])
+    nothing p turns o None = sym (ap (λ ss. onwards (run_all_in p turns o (next_in q.numbering.now) ss) (λ s t. elim s [ None ↦ resume p turns (stacked r) (with_table o t) 0 | Some v ↦ leave p turns (stacked r) v ])) none)
+    nothing p turns o (Some v) = refl
+
 -- in the open call of a walker
 abbrev pub V : Walker → Table → ExprTree → Run ℕ
 V w t e = value (world_in (program_in w) w.turns (opened w.call)) (scope_with (opened w.call).names 0) t e
@@ -70,7 +84,29 @@ Next w y t = resume (program_in w) w.turns (stacked w.rests) (with_table (opened
 abbrev pub Settle : Walker → Option ℕ → Table → Outcome
 Settle w r t = elim r [ None ↦ Next w 0 t | Some v ↦ leave (program_in w) w.turns (stacked w.rests) v ]
 
+-- values of operators
+module _ (w : Walker) where
+  pub unary_has : (at : ℕ) (op : UnaryOp) (a : ExprTree) (x : ℕ) → HasValue w a x → HasValue w (unary at op a) (unary_value op x)
+  unary_has at op a x h = ap (λ q. q >>= λ z u. gives (unary_value op z) u) h
+
+  pub binary_has : (at : ℕ) (op : BinaryOp) (a b : ExprTree) (x z : ℕ) → HasValue w a x → HasValue w b z → HasValue w (binary at op a b) (binary_value op x z)
+  binary_has at op a b x z h k = ap (λ q. q >>= λ x u. V w u b >>= λ z t. gives (binary_value op x z) t) h ∙ ap (λ q. q >>= λ z t. gives (binary_value op x z) t) k
+
 module _ (w : Walker) (y : Result (Unit {0}) Stop) (v : Walker) where
+  -- an expression whose value is known
+  pub at_once : (e : ExprTree) (rest : Rest) (x : ℕ) → HasValue w e x → Resumes (record w { value = x }) (rest ∷ stacked w.rests) y v → EvaluatesThen w e rest y v
+  at_once e rest x is h = record { went = went_as _ _ _ _ y v h.went (ap (λ q. onwards q (λ z t. resume (program_in w) w.turns (rest ∷ stacked w.rests) (with_table (opened w.call) t) z)) is) (omega arith) }
+
+  pub assigned_goes : (at : ℕ) (a b : ExprTree) (n : Option ℕ) (x : ℕ) (t : Vec ℕ) → n ≡ option_map (λ z. z.number) (target (scope_with (opened w.call).names 0) a) → HasValue w b x → t.items ≡ stored_numbered n x w.call.table.items →
+      Gives (record w { call = record w.call { table = t } }) 0 y v → EvaluatesThen w (assign at a b) Discard y v
+  assigned_goes at a b n x t number is stored h =
+      record {
+        went = went_as _ _ _ _ y v h.went
+            (ap (λ q. onwards (q >>= λ z u. gives z (stored_in (target (scope_with (opened w.call).names 0) a) z u)) (λ z u. Next w 0 u)) is
+            ∙ ap (λ u. Next w 0 u) (stored_by_number (target (scope_with (opened w.call).names 0) a) x w.call.table.items ∙ ap (λ m. stored_numbered m x w.call.table.items) (sym number) ∙ sym stored))
+            (omega arith);
+      }
+
   pub unary_goes : (at : ℕ) (op : UnaryOp) (a : ExprTree) → EvaluatesThen w a (Unary op) y v → Evaluates w (unary at op a) y v
   unary_goes at op a h = record { went = went_as _ _ _ _ y v h.went (onwards_after (V w w.call.table.items a) (λ x u. gives (unary_value op x) u) (Next w)) (omega arith) }
 
@@ -220,13 +256,13 @@ module _ (w : Walker) (y : Result (Unit {0}) Stop) (v : Walker) where
       enters (stops e) = refl
 
   -- statements, one after the other
-  pub next_goes : (s : StmtTree) (next m : ℕ) (q : PlacedAll) (r : Rests) → m ≡ next → behind (scope_with (opened w.call).names next) s ≡ scope_with (opened w.call).names (next_in q.numbering.now) → stacked r ≡ RunAll q ∷ stacked w.rests →
+  pub next_goes : (s : StmtTree) (next m : ℕ) (q : PlacedAll) (r : Rests) → m ≡ next → behind (scope_with (opened w.call).names next) s ≡ scope_with (opened w.call).names (next_in q.numbering.now) → Follows w.rests q r →
       Runs (record w { rests = r }) m s y v → RunsAll w next (stmt s (stmts_of q.statements.now)) y v
   next_goes s next m q r same scope is h = record {
     went = went_as _ _ _ _ y v (subst (λ k. Runs (record w { rests = r }) k s y v) same h).went
         (onwards_after (R w next w.call.table.items s) (λ x u. then_next x (λ z. Ra (behind (scope_with (opened w.call).names next) s) z) u) (Settle w)
-        ∙ onwards_alike (R w next w.call.table.items s) _ _ (λ x u. after_one x u ∙ ap (λ k. elim x [ None ↦ resume (program_in w) w.turns k (with_table (opened w.call) u) 0 | Some z ↦ leave (program_in w) w.turns k z ]) (sym is)))
-        (omega (arith, ap (λ k. weigh_rests w k) is));
+        ∙ onwards_alike (R w next w.call.table.items s) _ _ (λ x u. after_one x u ∙ sym (is.same (program_in w) w.turns (with_table (opened w.call) u) x)))
+        (omega (arith, is.fewer w.functions.now w.turns w.call.calls));
   }
     where
       Ra : Scope → Table → Run (Option ℕ)

@@ -1,11 +1,15 @@
 -- Where the walk of a program stands: what it comes to, and that each step comes to the same with less left to do.
-use Rattle.std.specs.Prelude.{◌≡◌, ℕ, suc, ◌+◌, ◌<◌, List, ◌∷◌, map, Option, Some, None, Result, Ok, Err}
+use Rattle.std.specs.Prelude.{◌≡◌, ℕ, suc, ◌+◌, ◌<◌, ◌≤◌, List, ◌∷◌, map, Option, Some, None, Result, Ok, Err}
 use Rattle.source_meaning.specs.Ast.{Expr as ExprTree, Args as ArgsTree, Stmt as StmtTree, Stmts as StmtsTree, Function as FunctionTree, Program}
 use Rattle.source_meaning.specs.Meaning.{Deep as AtDeep, More as AtMore, Run, gives, Outcome, Stopped, returned, call_in}
 use Rattle.source_meaning.specs.Trees.{function_of}
 use Rattle.source_meaning.specs.Resuming.{Opened, opened, with_table, stacked, onwards, resume, leave, value_in, call_with, run_in, run_all_in}
 use Rattle.source_meaning.specs.Weights.{expr_weight, args_weight, stmt_weight, stmts_weight, call_weight, rests_weight}
+use Rattle.source_meaning.specs.declared.callees.Callee.{Callee}
+use Rattle.source_meaning.specs.declared.rests.PlacedAll.{PlacedAll}
+use Rattle.source_meaning.specs.declared.rests.Rests.{Rests}
 use Rattle.source_meaning.specs.declared.rests.Rest.{Rest}
+use Rattle.source_meaning.specs.declared.rests.Rest.TheVariants.{RunAll}
 use Rattle.source_meaning.specs.declared.interpreter.Stop.{Stop}
 use Rattle.source_meaning.specs.declared.interpreter.Stop.TheVariants.{Deep, More, NoMemory}
 use Rattle.source_meaning.specs.declared.interpreter.Walker.{Walker}
@@ -104,3 +108,8 @@ pub record Departs (w : Walker) (y : Result (Unit {0}) Stop) (v : Walker) : Type
 
 pub record GoesBack (w : Walker) (o : Opened) (y : Result (Unit {0}) Stop) (v : Walker) : Type 0 where
   pub went : Went (resume (program_in w) w.turns (stacked w.rests) o w.value) (suc (rests_weight w.functions.now w.turns o.calls (stacked w.rests))) y v
+
+-- Statements come first in these steps: they come to the same as with a step for the statements, also where there is none for no statement.
+pub record Follows (r : Rests) (q : PlacedAll) (s : Rests) : Type 0 where
+  pub same : (p : Program) (turns : ℕ) (o : Opened) (x : Option ℕ) → ◌≡◌ {A = Outcome} (elim x [ None ↦ resume p turns (stacked s) o 0 | Some v ↦ leave p turns (stacked s) v ]) (elim x [ None ↦ resume p turns (RunAll q ∷ stacked r) o 0 | Some v ↦ leave p turns (RunAll q ∷ stacked r) v ])
+  pub fewer : (fs : List Callee) (turns calls : ℕ) → rests_weight fs turns calls (stacked s) ≤ rests_weight fs turns calls (RunAll q ∷ stacked r)

@@ -9,7 +9,7 @@ ghost use Rattle.source_meaning.specs.Resuming.{opened, stacked};
 ghost use Rattle.source_meaning.specs.Numbering.{next_in};
 ghost use Rattle.source_meaning.specs.Weights.{stmt_weight, heaviest};
 ghost use Rattle.source_meaning.specs.Walking.{program_in, meant, Gives, HasValue, EvaluatesThen, Evaluates, Computes, Opens, Runs, RunsAll, Resumes, Departs, GoesBack};
-ghost use Rattle.source_meaning.specs.declared.rests.Rest.TheVariants.{Binary as Applied, IfElse, Right as RightSide, Turn};
+ghost use Rattle.source_meaning.specs.declared.rests.Rest.TheVariants.{Again as NextTurn, Binary as Applied, Discard as Discarded, IfElse, Right as RightSide, Turn};
 
 use crate::callees::{Callee, callees_of};
 use crate::kinds::BinaryOp;
@@ -92,6 +92,9 @@ fn fill(table: &mut Vec<u32>, count: u32) -> Result<(), AllocError>
     Ok(())
 }
 
+/// How deep an expression is at most that is computed at once.
+const LEVELS: u32 = 64;
+
 /// Where the walk of a program stands.
 #[derive(Drop)]
 pub(crate) struct Walker<'a> {
@@ -120,6 +123,7 @@ impl<'a> Walker<'a> {
     }
 
     /// The value of a variable.
+    #[inline(always)]
     fn value_of(&self, name: &[u8]) -> u32
         ensures { result ≡ value_in (variable_of (scope_with (named self.now.call.names) 0) name.now) self.now.call.table.items }
     {
@@ -137,6 +141,7 @@ impl<'a> Walker<'a> {
     }
 
     /// Goes on with a value.
+    #[inline(always)]
     fn give(&mut self, value: u32) -> Result<(), Stop>
         ensures { Gives self.old value result self.new }
     {
@@ -145,6 +150,7 @@ impl<'a> Walker<'a> {
     }
 
     /// The value of an expression that is a number, a truth value or a variable.
+    #[inline(always)]
     fn leaf(&self, e: &Expr) -> Option<u32>
         ensures { MatchOption result (Unit {0}) (HasValue self.now (expr_of e.now)) }
     {
@@ -156,7 +162,32 @@ impl<'a> Walker<'a> {
         }
     }
 
+    /// The value of an expression of at most so many levels that has no operators but those that compute all their sides.
+    fn simple(&self, e: &Expr, levels: u32) -> Option<u32>
+        ensures { MatchOption result (Unit {0}) (HasValue self.now (expr_of e.now)) }
+    {
+        let levels = levels.checked_sub(1)?;
+        match e {
+            Expr::Unary { op, operand, .. } => {
+                let x = self.simple(operand, levels)?;
+                Some(apply_unary(*op, x))
+            }
+            Expr::Binary {
+                op,
+                left,
+                right,
+                ..
+            } => {
+                let x = self.simple(left, levels)?;
+                let y = self.simple(right, levels)?;
+                Some(apply_binary(*op, x, y))
+            }
+            _ => self.leaf(e),
+        }
+    }
+
     /// Computes an expression, and then does the rest with its value. A leaf is computed at once.
+    #[inline(always)]
     fn evaluate_then(&mut self, e: &'a Expr, rest: Rest<'a>) -> Result<(), Stop>
         ensures { EvaluatesThen self.old (expr_of e.now) rest.entry result self.new }
     {
@@ -193,6 +224,40 @@ impl<'a> Walker<'a> {
         }
     }
 
+    /// Computes an expression, and then does the rest with its value. A simple one is computed at once.
+    #[inline(always)]
+    fn compute_then(&mut self, e: &'a Expr, rest: Rest<'a>) -> Result<(), Stop>
+        ensures { EvaluatesThen self.old (expr_of e.now) rest.entry result self.new }
+    {
+        match self.simple(e, LEVELS) {
+            Some(value) => {
+                self.rests.push(rest)?;
+                self.give(value)
+            }
+            None => self.evaluate_then(e, rest),
+        }
+    }
+
+    /// Computes an expression for what it does.
+    fn discard(&mut self, e: &'a Expr) -> Result<(), Stop>
+        ensures { EvaluatesThen self.old (expr_of e.now) Discarded result self.new }
+    {
+        match e {
+            Expr::Assign { left, right, .. } => match self.simple(right, LEVELS) {
+                Some(value) => {
+                    let number = self.target(left);
+                    store(number, value, &mut self.call.table);
+                    self.give(0)
+                }
+                None => self.evaluate_then(e, Rest::Discard),
+            },
+            _ => match self.simple(e, LEVELS) {
+                Some(_) => self.give(0),
+                None => self.evaluate_then(e, Rest::Discard),
+            },
+        }
+    }
+
     /// Computes an expression.
     fn evaluate(&mut self, e: &'a Expr) -> Result<(), Stop>
         ensures { Evaluates self.old (expr_of e.now) result self.new }
@@ -212,8 +277,8 @@ impl<'a> Walker<'a> {
                 right,
                 ..
             } => self.operate(*op, left, right),
-            Expr::And { left, right, .. } => self.evaluate_then(left, Rest::And(right)),
-            Expr::Or { left, right, .. } => self.evaluate_then(left, Rest::Or(right)),
+            Expr::And { left, right, .. } => self.compute_then(left, Rest::And(right)),
+            Expr::Or { left, right, .. } => self.compute_then(left, Rest::Or(right)),
             Expr::Assign { left, right, .. } => {
                 let number = self.target(left);
                 self.evaluate_then(right, Rest::Store(number))
@@ -230,7 +295,7 @@ impl<'a> Walker<'a> {
                 Some(f) => self.open(f, values),
                 None => self.give(0),
             },
-            Args::Then { first, rest } => self.evaluate_then(
+            Args::Then { first, rest } => self.compute_then(
                 first,
                 Rest::Argument { name, values, rest },
             ),
@@ -272,12 +337,12 @@ impl<'a> Walker<'a> {
     {
         let numbering = placed.numbering;
         match placed.statement {
-            Stmt::Var { value, .. } => self.evaluate_then(value, Rest::Initialize(placed.next())),
+            Stmt::Var { value, .. } => self.compute_then(value, Rest::Initialize(placed.next())),
             Stmt::If {
                 condition,
                 then,
                 ..
-            } => self.evaluate_then(
+            } => self.compute_then(
                 condition,
                 Rest::If(Placed {
                     statement: then,
@@ -289,7 +354,7 @@ impl<'a> Walker<'a> {
                 then,
                 otherwise,
                 ..
-            } => self.evaluate_then(
+            } => self.compute_then(
                 condition,
                 Rest::IfElse(Branches {
                     then,
@@ -302,7 +367,7 @@ impl<'a> Walker<'a> {
                 condition,
                 body,
                 ..
-            } => self.evaluate_then(
+            } => self.compute_then(
                 condition,
                 Rest::Turn(Loop {
                     condition,
@@ -313,7 +378,7 @@ impl<'a> Walker<'a> {
                     turns: self.turns,
                 }),
             ),
-            Stmt::Return { value, .. } => self.evaluate_then(value, Rest::Return),
+            Stmt::Return { value, .. } => self.compute_then(value, Rest::Return),
             Stmt::Block { body, .. } => {
                 self.rests.push(Rest::RunAll(PlacedAll {
                     statements: body,
@@ -321,7 +386,7 @@ impl<'a> Walker<'a> {
                 }))?;
                 Ok(())
             }
-            Stmt::Eval { value } => self.evaluate_then(value, Rest::Discard),
+            Stmt::Eval { value } => self.discard(value),
         }
     }
 
@@ -341,13 +406,13 @@ impl<'a> Walker<'a> {
                         numbering: others,
                     }))?;
                     self.rests.push(Rest::Declare(Named { name, number }))?;
-                    self.evaluate_then(value, Rest::Initialize(number))
+                    self.compute_then(value, Rest::Initialize(number))
                 }
                 _ => {
-                    self.rests.push(Rest::RunAll(PlacedAll {
+                    self.rests.follow(PlacedAll {
                         statements: rest,
                         numbering: others,
-                    }))?;
+                    })?;
                     self.run(Placed {
                         statement: first,
                         numbering: own,
@@ -380,6 +445,19 @@ impl<'a> Walker<'a> {
             ..looped
         }))?;
         self.run(looped.body)
+    }
+
+    /// Computes the condition of a loop again, and goes round it.
+    fn again(&mut self, looped: Loop<'a>) -> Result<(), Stop>
+        ensures { Resumes self.old (NextTurn looped.entry ∷ stacked self.old.rests) result self.new }
+    {
+        match self.simple(looped.condition, LEVELS) {
+            Some(value) => {
+                self.value = value;
+                self.turn(looped)
+            }
+            None => self.evaluate_then(looped.condition, Rest::Turn(looped)),
+        }
     }
 
     /// Drops what is left to do in the call.
@@ -454,7 +532,7 @@ impl<'a> Walker<'a> {
             Rest::If(then) => { if value == 0 { Ok(()) } else { self.run(then) } }
             Rest::IfElse(branches) => self.choose(branches),
             Rest::Turn(looped) => self.turn(looped),
-            Rest::Again(looped) => self.evaluate_then(looped.condition, Rest::Turn(looped)),
+            Rest::Again(looped) => self.again(looped),
             Rest::Return => self.leave(),
             Rest::Caller(outer) => self.go_back(Box::into_inner(outer)),
         }

@@ -160,6 +160,7 @@ pub(crate) struct Rests<'a> {
 impl<'a> Rests<'a> {
     ghost use Rattle.std.specs.Prelude.{◌≡◌, [], ◌∷◌, OnOk, MatchOption};
     ghost use Rattle.source_meaning.specs.Resuming.{stacked};
+    ghost use Rattle.source_meaning.specs.Walking.{Follows};
 
     /// Nothing.
     pub(crate) fn new(alloc: Global) -> Rests<'a>
@@ -171,6 +172,7 @@ impl<'a> Rests<'a> {
     }
 
     /// Puts a step before all others.
+    #[inline(always)]
     pub(crate) fn push(&mut self, rest: Rest<'a>) -> Result<(), AllocError>
         ensures { OnOk result (stacked self.new ≡ rest.entry ∷ stacked self.old) }
     {
@@ -178,7 +180,22 @@ impl<'a> Rests<'a> {
         Ok(())
     }
 
+    /// Puts statements before all steps, where there are any.
+    #[inline(always)]
+    pub(crate) fn follow(&mut self, placed: PlacedAll<'a>) -> Result<(), AllocError>
+        ensures { OnOk result (Follows self.old placed.entry self.new) }
+    {
+        match placed.statements {
+            Stmts::Empty => Ok(()),
+            Stmts::Next { .. } => {
+                self.push(Rest::RunAll(placed))?;
+                Ok(())
+            }
+        }
+    }
+
     /// Takes the next step.
+    #[inline(always)]
     pub(crate) fn pop(&mut self) -> Option<Rest<'a>>
         ensures { MatchOption result ((stacked self.old ≡ []) × (stacked self.new ≡ [])) (λ rest. stacked self.old ≡ rest ∷ stacked self.new) }
     {
