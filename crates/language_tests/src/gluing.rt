@@ -3,8 +3,9 @@ ghost use Rattle.std.specs.Prelude.{◌<◌};
 
 use chunk_seats::{Gate, OpenGate, Plan};
 use grammar_file::{G1, Grammar};
-use llp_glue::{ParseFault, parse};
+use llp_glue::{ParseFault, parse, parse_wide};
 use llp_tables::Tables;
+use llp_wide::WideTables;
 use par_passes::{Passes, Workers};
 use std::alloc::{AllocError, Global};
 use std::process::Abort;
@@ -122,6 +123,105 @@ fn small_words_by_chunks_of_one_and_two(rt: HostRuntime) -> Result<(), Fail> {
         small_words(&rt, rt.alloc(), &crew)?;
     }
     Ok(())
+}
+
+// The tables with two tokens of look-back that a text's grammar has, if it has some.
+fn wide_tables_of(alloc: Global, text: &[u8]) -> Option<WideTables> {
+    let grammar = Grammar::read(alloc, text).ok()?;
+    WideTables::build(alloc, &grammar).ok()
+}
+
+// Whether the word has that left parse by two tokens of look-back, or else fails at that place.
+fn answers_wide(
+    crew: &impl Passes,
+    tables: &WideTables,
+    word: &[u16],
+    due: Result<&[u16], u64>,
+) -> bool {
+    match (parse_wide(crew, tables, word), due) {
+        (Ok(found), Ok(productions)) => found.as_slice() == productions,
+        (Err(ParseFault::Syntax { at }), Err(place)) => at == place,
+        _ => false,
+    }
+}
+
+// A grammar that one token of look-back doesn't serve: its terminals are p, q, c, i and d.
+const TWO_STACKS: &[u8] = b"S -> p E q\nS -> c E T q\nE -> i\nT -> d E T\nT ->";
+
+// Words of small grammars, by two tokens of look-back.
+fn wide_words<R: Abort>(rt: &R, alloc: Global, crew: &impl Passes) -> Result<(), Fail> {
+    let rows: [(&[u8], &[u16], Result<&[u16], u64>); 24] = [
+        (PAIRS, &[], Ok(&[2])),
+        (PAIRS, &[1, 2], Ok(&[1, 2])),
+        (PAIRS, &[1, 1, 2, 2], Ok(&[1, 1, 2])),
+        (PAIRS, &[2], Err(0)),
+        (PAIRS, &[1], Err(1)),
+        (PAIRS, &[1, 2, 1], Err(2)),
+        (PAIRS, &[1, 1, 2], Err(3)),
+        // tokens that the tables don't have, and the mark behind the word as a token
+        (PAIRS, &[1, 9, 2], Err(1)),
+        (PAIRS, &[65535], Err(0)),
+        (PAIRS, &[1, 2, 3], Err(3)),
+        (b"S -> a", &[1], Ok(&[1])),
+        (b"S ->", &[1], Err(1)),
+        // p i q, c i q, c i d i q
+        (TWO_STACKS, &[1, 4, 2], Ok(&[1, 3])),
+        (TWO_STACKS, &[3, 4, 2], Ok(&[2, 3, 5])),
+        (TWO_STACKS, &[3, 4, 5, 4, 2], Ok(&[2, 3, 4, 3, 5])),
+        // a fault at each token of c i d i q, and behind it
+        (TWO_STACKS, &[], Err(0)),
+        (TWO_STACKS, &[4, 4, 5, 4, 2], Err(0)),
+        (TWO_STACKS, &[3, 2], Err(1)),
+        (TWO_STACKS, &[3, 4, 3, 4, 2], Err(2)),
+        (TWO_STACKS, &[1, 4, 5, 4, 2], Err(2)),
+        (TWO_STACKS, &[3, 4, 5, 2, 2], Err(3)),
+        (TWO_STACKS, &[3, 4, 5, 4, 1], Err(4)),
+        (TWO_STACKS, &[3, 4, 5, 4], Err(4)),
+        (TWO_STACKS, &[3, 4, 5, 4, 2, 2], Err(5)),
+    ];
+    for (text, word, due) in rows {
+        let tables = wide_tables_of(alloc, text).ok_or("the grammar has tables")?;
+        assert!(rt; answers_wide(crew, &tables, word, due));
+    }
+    Ok(())
+}
+
+// Whether both kinds of tables answer alike.
+fn agree(crew: &impl Passes, tables: &Tables, wide: &WideTables, word: &[u16]) -> bool {
+    match parse(crew, tables, word) {
+        Ok(found) => answers_wide(crew, wide, word, Ok(found.as_slice())),
+        Err(ParseFault::Syntax { at }) => answers_wide(crew, wide, word, Err(at)),
+        Err(ParseFault::NoMemory) => false,
+    }
+}
+
+// Words of a grammar that has both kinds of tables.
+fn words_by_both<R: Abort>(rt: &R, alloc: Global, crew: &impl Passes) -> Result<(), Fail> {
+    let text = b"S -> a N b x\nS -> c N T\nN ->\nT -> b";
+    let tables = tables_of(alloc, text).ok_or("the grammar has tables")?;
+    let wide = wide_tables_of(alloc, text).ok_or("the grammar has tables")?;
+    for first in 0..6 {
+        assert!(rt; agree(crew, &tables, &wide, &[first]));
+        for second in 0..6 {
+            assert!(rt; agree(crew, &tables, &wide, &[first, second]));
+            for third in 0..6 {
+                assert!(rt; agree(crew, &tables, &wide, &[first, second, third]));
+            }
+        }
+    }
+    Ok(())
+}
+
+#[test]
+fn two_tokens_of_look_back_by_every_plan(rt: HostRuntime) -> Result<(), Fail> {
+    for workers in [1, 2, 4] {
+        for chunk in [1, 2, 3] {
+            let crew = crew_of(&rt, rt.alloc(), workers, chunk).ok_or("in range")?;
+            wide_words(&rt, rt.alloc(), &crew)?;
+        }
+    }
+    let crew = crew_of(&rt, rt.alloc(), 2, 1).ok_or("in range")?;
+    words_by_both(&rt, rt.alloc(), &crew)
 }
 
 // So many opening tokens, and then as many closing ones.

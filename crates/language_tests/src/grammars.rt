@@ -14,7 +14,7 @@ fn line_of(alloc: Global, text: &[u8]) -> Result<String, AllocError> {
 
 #[test]
 fn small_files(rt: HostRuntime) -> Result<(), Fail> {
-    let rows: [(&[u8], &str); 31] = [
+    let rows: [(&[u8], &str); 48] = [
         (b"", "grammar empty"),
         (b"\n \t\n# S -> a\n", "grammar empty"),
         (b"A B", "grammar line 1"),
@@ -49,11 +49,44 @@ fn small_files(rt: HostRuntime) -> Result<(), Fail> {
         (b"S -> a\r\n", "ok"),
         (b"\tS\t->   T! # b -> c\n T! ->\r\n\r\n", "ok"),
         (b"S -> begin end ->> -", "ok"),
+        (b"lookback 1\nS -> a", "ok"),
+        (b"lookback 2\nS -> a", "ok"),
+        (b"# two\n\n\t lookback\t 2 # back\r\nS -> a", "ok"),
+        (b"lookback -> a", "ok"),
+        (b"lookback 2\nlookback -> lookback 2\nlookback ->", "ok"),
+        (b"lookback 2", "grammar empty"),
+        (b"lookback 0\nS -> a", "grammar line 1"),
+        (b"lookback 3\nS -> a", "grammar line 1"),
+        (b"lookback 02\nS -> a", "grammar line 1"),
+        (b"lookback 12\nS -> a", "grammar line 1"),
+        (b"lookback 2 2\nS -> a", "grammar line 1"),
+        (b"lookback\nS -> a", "grammar line 1"),
+        (b"lookback2\nS -> a", "grammar line 1"),
+        (b"Lookback 2\nS -> a", "grammar line 1"),
+        (b"S -> a\nlookback 2", "grammar line 2"),
+        (b"lookback 2\n\nlookback 2\nS -> a", "grammar line 3"),
+        (b"S\nlookback 2\nS -> a", "grammar line 1"),
     ];
     for (text, line) in rows {
         let answer = line_of(rt.alloc(), text)?;
         assert_eq!(rt; answer.as_str(), line);
     }
+    Ok(())
+}
+
+/// The lookback that a file says.
+fn lookback_of(alloc: Global, text: &[u8]) -> Option<u8> {
+    let grammar = Grammar::read(alloc, text).ok()?;
+    Some(grammar.lookback())
+}
+
+#[test]
+fn lookbacks(rt: HostRuntime) -> Result<(), Fail> {
+    let alloc = rt.alloc();
+    assert_eq!(rt; lookback_of(alloc, b"S -> a"), Some(1));
+    assert_eq!(rt; lookback_of(alloc, b"lookback 1\nS -> a"), Some(1));
+    assert_eq!(rt; lookback_of(alloc, b"lookback 2\nS -> a"), Some(2));
+    assert_eq!(rt; lookback_of(alloc, b"S -> a\nlookback 2"), None);
     Ok(())
 }
 
@@ -118,6 +151,7 @@ fn source_grammar(rt: HostRuntime) -> Result<(), Fail> {
         assert!(rt; false, "the grammar of the source language is refused");
         return Ok(());
     };
+    assert_eq!(rt; grammar.lookback(), 1);
     assert_eq!(rt; grammar.terminal_count(), 29);
     assert_eq!(rt; grammar.nonterminal_count(), 26);
     assert_eq!(rt; grammar.production_count(), 53);

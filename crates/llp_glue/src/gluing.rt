@@ -2,81 +2,85 @@
 ghost use Rattle.std.specs.Prelude.{◌≡◌, ◌<◌, ◌≤◌, length, flat_map, IfErr, IfOk};
 ghost use Rattle.std.specs.List.{range_with_len};
 ghost use Rattle.chunk_seats.specs.Chunks.{chunk_count};
-ghost use Rattle.grammar_file.specs.Grammar.{begin_mark};
 ghost use Rattle.glue_summary.specs.Marks.{chunk_marks};
 ghost use Rattle.glue_summary.specs.Parsing.{IsFaultBy, IsLeftParseBy};
-ghost use Rattle.glue_summary.specs.Stretch.{IsGlued, IsRunFault, chunk_productions, entries_of, start_of};
+ghost use Rattle.glue_summary.specs.Stretch.{IsGlueFault, IsGlued, chunk_productions, ended_by};
+ghost use Rattle.llp_wide.specs.WideParsing.{IsFaultByWide, IsLeftParseByWide};
 
 use chunk_seats::Gate;
 use glue_summary::{
-    Mark, ParseFault, Walk, count_chunks, ended, join_word, marks_of_chunk, productions_of_chunk,
+    Mark, ParseFault, PieceTables, Walk, chunks_make_the_whole, count_chunks, ended, join_word,
+    marks_of_chunk, productions_of_chunk, tables_make_the_parse,
 };
 use llp_tables::Tables;
+use llp_wide::{WideTables, wide_tables_make_the_parse};
 use par_passes::Passes;
 use std::alloc::AllocError;
 
 // The marks of the summaries of all chunks.
-fn all_marks(
+fn all_marks<T: PieceTables + Send + Sync>(
     crew: &impl Passes,
-    tables: &Tables,
+    tables: &T,
     tokens: &[u16],
     size: u32,
 ) -> Result<Vec<Mark>, AllocError>
     requires size { (0 < size) × (size ≤ 65536) }
-    ensures { IfOk result (λ v. v.items ≡ flat_map (chunk_marks tables.now size tokens.now) (range_with_len 0 (chunk_count size (length tokens.now)))) }
+    ensures { IfOk result (λ v. v.items ≡ flat_map (chunk_marks (T.pieces tables.now) size tokens.now) (range_with_len 0 (chunk_count size (length tokens.now)))) }
 {
     let alloc = crew.alloc();
     let marks = |c: u64| -> Result<Vec<Mark>, AllocError>
-        ensures { IfOk result (λ v. v.items ≡ chunk_marks tables.entry.now size tokens.entry.now c) }
+        ensures { IfOk result (λ v. v.items ≡ chunk_marks (T.pieces tables.entry.now) size tokens.entry.now c) }
     { marks_of_chunk(alloc, tables, tokens, size, c) };
     let count = count_chunks(tokens, size);
     crew.by_chunks(count, count, &marks)
 }
 
 // The productions of all chunks.
-fn all_productions(
+fn all_productions<T: PieceTables + Send + Sync>(
     crew: &impl Passes,
-    tables: &Tables,
+    tables: &T,
     tokens: &[u16],
     size: u32,
 ) -> Result<Vec<u16>, AllocError>
     requires size { (0 < size) × (size ≤ 65536) }
-    ensures { IfOk result (λ v. v.items ≡ flat_map (chunk_productions tables.now size tokens.now) (range_with_len 0 (chunk_count size (length tokens.now)))) }
+    ensures { IfOk result (λ v. v.items ≡ flat_map (chunk_productions (T.pieces tables.now) size tokens.now) (range_with_len 0 (chunk_count size (length tokens.now)))) }
 {
     let alloc = crew.alloc();
     let productions = |c: u64| -> Result<Vec<u16>, AllocError>
-        ensures { IfOk result (λ v. v.items ≡ chunk_productions tables.entry.now size tokens.entry.now c) }
+        ensures { IfOk result (λ v. v.items ≡ chunk_productions (T.pieces tables.entry.now) size tokens.entry.now c) }
     { productions_of_chunk(alloc, tables, tokens, size, c) };
     crew.by_chunks(count_chunks(tokens, size), tokens.len(), &productions)
 }
 
 // By the whole crew: what each chunk closes and opens, these joined in order onto the stack of the start, and then each chunk's productions.
-fn glue_by_chunks(
+fn glue_by_chunks<T: PieceTables + Send + Sync>(
     crew: &impl Passes,
-    tables: &Tables,
+    tables: &T,
     tokens: &[u16],
     size: u32,
 ) -> Result<Vec<u16>, ParseFault>
     requires size { (0 < size) × (size ≤ 65536) }
-    ensures ok { IfOk result (λ v. IsGlued tables.now tokens.now v.items) }
-    ensures fault { IfErr result (IsRunFault (entries_of tables.now begin_mark tokens.now) (start_of tables.now)) }
+    ensures ok { IfOk result (λ v. IsGlued (T.pieces tables.now) (T.mark tables.now) tokens.now v.items) }
+    ensures fault { IfErr result (IsGlueFault (T.pieces tables.now) (T.mark tables.now) tokens.now) }
 {
+    chunks_make_the_whole();
     let marks = all_marks(crew, tables, tokens, size)?;
     join_word(crew.alloc(), tables, tokens, size, marks.as_slice())?;
     Ok(all_productions(crew, tables, tokens, size)?)
 }
 
 // By one worker alone: the pairs are followed on the true stack, and their productions are written on the way.
-fn glue_in_turn(
+fn glue_in_turn<T: PieceTables + Send + Sync>(
     crew: &impl Passes,
-    tables: &Tables,
+    tables: &T,
     tokens: &[u16],
     size: u32,
 ) -> Result<Vec<u16>, ParseFault>
     requires size { (0 < size) × (size ≤ 65536) }
-    ensures ok { IfOk result (λ v. IsGlued tables.now tokens.now v.items) }
-    ensures fault { IfErr result (IsRunFault (entries_of tables.now begin_mark tokens.now) (start_of tables.now)) }
+    ensures ok { IfOk result (λ v. IsGlued (T.pieces tables.now) (T.mark tables.now) tokens.now v.items) }
+    ensures fault { IfErr result (IsGlueFault (T.pieces tables.now) (T.mark tables.now) tokens.now) }
 {
+    chunks_make_the_whole();
     let mut walk = Walk::start(crew.alloc(), tables, tokens.len())?;
     for c in 0..count_chunks(tokens, size) as u64 {
         crew.gate().after_claim(0, Some(c));
@@ -87,9 +91,13 @@ fn glue_in_turn(
 }
 
 // The productions of all pairs, or the least pair that fails.
-fn glue(crew: &impl Passes, tables: &Tables, tokens: &[u16]) -> Result<Vec<u16>, ParseFault>
-    ensures ok { IfOk result (λ v. IsGlued tables.now tokens.now v.items) }
-    ensures fault { IfErr result (IsRunFault (entries_of tables.now begin_mark tokens.now) (start_of tables.now)) }
+fn glue<T: PieceTables + Send + Sync>(
+    crew: &impl Passes,
+    tables: &T,
+    tokens: &[u16],
+) -> Result<Vec<u16>, ParseFault>
+    ensures ok { IfOk result (λ v. IsGlued (T.pieces tables.now) (T.mark tables.now) tokens.now v.items) }
+    ensures fault { IfErr result (IsGlueFault (T.pieces tables.now) (T.mark tables.now) tokens.now) }
 {
     let plan = crew.plan();
     if plan.workers == 1 || tokens.len() <= plan.chunk as usize {
@@ -97,6 +105,19 @@ fn glue(crew: &impl Passes, tables: &Tables, tokens: &[u16]) -> Result<Vec<u16>,
     } else {
         glue_by_chunks(crew, tables, tokens, plan.chunk)
     }
+}
+
+// The same for the word between its marks.
+fn glue_word<T: PieceTables + Send + Sync>(
+    crew: &impl Passes,
+    tables: &T,
+    word: &[u16],
+) -> Result<Vec<u16>, ParseFault>
+    ensures ok { IfOk result (λ v. IsGlued (T.pieces tables.now) (T.mark tables.now) (ended_by (T.mark tables.now) word.now) v.items) }
+    ensures fault { IfErr result (IsGlueFault (T.pieces tables.now) (T.mark tables.now) (ended_by (T.mark tables.now) word.now)) }
+{
+    let tokens = ended(crew.alloc(), tables.end(), word)?;
+    glue(crew, tables, tokens.as_slice())
 }
 
 /// The left parse of a word, by the tables of a grammar: the productions, in order, of the one tree that derives the word. It is
@@ -111,6 +132,20 @@ pub fn parse(crew: &impl Passes, tables: &Tables, word: &[u16]) -> Result<Vec<u1
     ensures ok { IfOk result (λ ps. IsLeftParseBy tables.now word.now ps.items) }
     ensures fault { IfErr result (IsFaultBy tables.now word.now) }
 {
-    let tokens = ended(crew.alloc(), tables, word)?;
-    glue(crew, tables, tokens.as_slice())
+    tables_make_the_parse();
+    glue_word(crew, tables, word)
+}
+
+/// The same by tables with two tokens of look-back: each token has an entry by the two before it, where the begin mark stands twice before
+/// the word.
+pub fn parse_wide(
+    crew: &impl Passes,
+    tables: &WideTables,
+    word: &[u16],
+) -> Result<Vec<u16>, ParseFault>
+    ensures ok { IfOk result (λ ps. IsLeftParseByWide tables.now word.now ps.items) }
+    ensures fault { IfErr result (IsFaultByWide tables.now word.now) }
+{
+    wide_tables_make_the_parse();
+    glue_word(crew, tables, word)
 }

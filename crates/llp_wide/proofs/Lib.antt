@@ -12,3 +12,4 @@ pub mod WideSettling
 pub mod ClassLists
 pub mod Conflicting
 pub mod TripleLists
+pub mod WidePieces

@@ -11,3 +11,4 @@ pub mod WideFaults
 pub mod WideConflicts
 pub mod WideEntries
 pub mod Triples
+pub mod WideParsing

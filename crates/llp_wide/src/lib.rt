@@ -6,6 +6,7 @@ mod conflicts;
 mod endings;
 mod fault;
 mod generator;
+mod gluing;
 mod laws;
 mod members;
 mod pieces;
@@ -20,6 +21,7 @@ mod triples;
 mod wide_table;
 
 pub use fault::WideFault;
+pub use gluing::wide_tables_make_the_parse;
 pub use laws::{one_terminal_serves_two, wide_look_back_by_rules};
 pub use members::wide_members;
 pub use wide_table::WideTables;
