@@ -13,7 +13,7 @@ use Rattle.clap.specs.Simple.{Shape, argument_words, built, entered, filled, wit
 use Rattle.clap.specs.Walk.{Text, Rule, Row, Held, Names, Outcome, done, waits, plain, refused, Step, next, trailing, subcommand, value, Waiting, idle, option, positional, Walk, answers_to, arg_by_index, plain_word, after_flag, long_or_other, short_or_plain, subcommand_met, subcommand_or_other, word_met, to_positional, after_step, walked_from, walked, walk, walk_from, settled, finished, nothing_held, rows_after}
 use Rattle.clap.specs.Faults.{walk_fault, turn_fault, word_fault, other_fault, step_fault, settle_fault, defaults_fault, check_fault, level_fault, entered_fault, built_fault, fault_of}
 use Rattle.clap.proofs.ValueTestLemmas.{accepts-Accepts}
-use Rattle.command_line.specs.Words.{app, number_option, with_default, required, workers_option, chunk_option, steps_option, seed_option, functions_option}
+use Rattle.command_line.specs.Words.{app, value_option, with_default, required, workers_option, chunk_option, steps_option, seed_option, functions_option}
 use Rattle.command_line.specs.Ranges.{HasNumber, HasPlan, HasSteps, HasText, HasNumbers, of_build, of_run, of_emu, of_dump, of_asm, of_table, of_drill}
 use Rattle.command_line.proofs.Rows.{both_none, AreOptions, IsOption}
 use Rattle.command_line.proofs.Levels.{IsThere, here, wanted, later, level_value}
@@ -170,11 +170,11 @@ help_asked word other e = go (bytes_eq (codes "help") word) refl e
     go false h e = cc
 
 is_number : (name default : Text) (low high : ℕ) → ((t : Text) → is_unsigned_in low high t ≡ tested name t)
-    → IsOption tested (with_index 1 (filled (with_default (number_option name (parsers.Unsigned low high)) default)))
+    → IsOption tested (with_index 1 (filled (with_default (value_option name (parsers.Unsigned low high)) default)))
 is_number name default low high same = inl (record { sets = refl; one = refl; tested = same })
 
 is_required : (name : Text) (low high : ℕ) → ((t : Text) → is_unsigned_in low high t ≡ tested name t)
-    → IsOption tested (with_index 1 (filled (required (number_option name (parsers.Unsigned low high)))))
+    → IsOption tested (with_index 1 (filled (required (value_option name (parsers.Unsigned low high)))))
 is_required name low high same = inl (record { sets = refl; one = refl; tested = same })
 
 workers_is : IsOption tested (with_index 1 (filled workers_option))

@@ -12,13 +12,13 @@ use Rattle.command_line.specs.declared.command.Command.TheVariants.{Build, Run, 
 
 -- ---- the command
 
--- an option `--name N` with a number
-abbrev pub number_option : Text → ValueParser → Rule
-number_option name numbers = record (new_rule name) {
+-- an option `--name N` with a value
+abbrev pub value_option : Text → ValueParser → Rule
+value_option name values = record (new_rule name) {
   long = Some name;
   action = Some Set;
   value_names = 1;
-  parser = Some numbers;
+  parser = Some values;
 }
 
 abbrev pub with_default : Rule → Text → Rule
@@ -28,19 +28,23 @@ abbrev pub required : Rule → Rule
 required option = record option { required = true }
 
 abbrev pub workers_option : Rule
-workers_option = with_default (number_option (codes "workers") (parsers.Unsigned 1 64)) (codes "4")
+workers_option = with_default (value_option (codes "workers") (parsers.Unsigned 1 64)) (codes "4")
 
 abbrev pub chunk_option : Rule
-chunk_option = with_default (number_option (codes "chunk") (parsers.Unsigned 1 65536)) (codes "1024")
+chunk_option = with_default (value_option (codes "chunk") (parsers.Unsigned 1 65536)) (codes "1024")
 
 abbrev pub steps_option : Rule
-steps_option = with_default (number_option (codes "steps") (parsers.Unsigned 0 1000000000)) (codes "1000000")
+steps_option = with_default (value_option (codes "steps") (parsers.Unsigned 0 1000000000)) (codes "1000000")
 
 abbrev pub seed_option : Rule
-seed_option = required (number_option (codes "seed") (parsers.Unsigned 0 4294967295))
+seed_option = required (value_option (codes "seed") (parsers.Unsigned 0 4294967295))
 
 abbrev pub functions_option : Rule
-functions_option = required (number_option (codes "functions") (parsers.Unsigned 1 4096))
+functions_option = required (value_option (codes "functions") (parsers.Unsigned 1 4096))
+
+-- any text is a word
+abbrev pub word_option : Rule
+word_option = value_option (codes "word") parsers.String
 
 abbrev pub subcommand : Text → List Rule → Shape
 subcommand name options = record (new_shape name) { rules = options }
@@ -61,7 +65,7 @@ abbrev pub asm_shape : Shape
 asm_shape = subcommand (codes "asm") []
 
 abbrev pub table_shape : Shape
-table_shape = subcommand (codes "table") []
+table_shape = subcommand (codes "table") (word_option ∷ [])
 
 abbrev pub drill_shape : Shape
 drill_shape = subcommand (codes "drill") (seed_option ∷ functions_option ∷ workers_option ∷ chunk_option ∷ [])
@@ -105,7 +109,7 @@ asked_by name rows =
     else if bytes_eq name (codes "dump") then record { command = Dump; workers = 1; chunk = 1 }
     else if bytes_eq name (codes "asm") then record { command = Asm; workers = 1; chunk = 1 }
     else if bytes_eq name (codes "drill") then shared_out (Drill (number_at (codes "seed") rows) (number_at (codes "functions") rows)) rows
-    else record { command = Table; workers = 1; chunk = 1 }
+    else record { command = Table (first_of (codes "word") rows); workers = 1; chunk = 1 }
 
 -- what words ask for, of which the first is the program's name; none exactly where clap finds a fault in them
 abbrev pub asked : List Text → Option Asked

@@ -1,7 +1,9 @@
 // What the program can be asked to do.
 
+use crate::word::Word;
+
 /// What the program is asked to do.
-#[derive(Clone, Copy, PartialEq, Eq, Debug)]
+#[derive(Debug, Drop)]
 pub enum Command {
     /// Compiles the source on the input to an executable file on the output.
     Build,
@@ -19,8 +21,11 @@ pub enum Command {
     Dump,
     /// Assembles the listing on the input to an executable file on the output.
     Asm,
-    /// Reads the grammar file on the input, and tells how large its parse tables are.
-    Table,
+    /// Reads the grammar file on the input, and tells how large its parse tables are, and the left parse of a word.
+    Table {
+        /// The word, where one is to be parsed.
+        word: Option<Word>,
+    },
     /// Makes a source text from a seed, compiles it, runs its file on the machine for a million steps, and tells how large all
     /// became and how the run ended. It reads no input.
     Drill {

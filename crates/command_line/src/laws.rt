@@ -16,7 +16,11 @@ pub fn worked_words()
     ensures emu { asked (codes "pareas" ∷ codes "emu" ∷ []) ≡ Some (record { command = Emu 1000000; workers = 1; chunk = 1 }) }
     ensures dump { asked (codes "pareas" ∷ codes "dump" ∷ []) ≡ Some (record { command = Dump; workers = 1; chunk = 1 }) }
     ensures asm { asked (codes "pareas" ∷ codes "asm" ∷ []) ≡ Some (record { command = Asm; workers = 1; chunk = 1 }) }
-    ensures table { asked (codes "pareas" ∷ codes "table" ∷ []) ≡ Some (record { command = Table; workers = 1; chunk = 1 }) }
+    ensures table { asked (codes "pareas" ∷ codes "table" ∷ []) ≡ Some (record { command = Table None; workers = 1; chunk = 1 }) }
+    ensures word { asked (codes "pareas" ∷ codes "table" ∷ codes "--word" ∷ codes "a b" ∷ []) ≡ Some (record { command = Table (Some (codes "a b")); workers = 1; chunk = 1 }) }
+    ensures empty_word { asked (codes "pareas" ∷ codes "table" ∷ codes "--word" ∷ [] ∷ []) ≡ Some (record { command = Table (Some []); workers = 1; chunk = 1 }) }
+    ensures valueless { asked (codes "pareas" ∷ codes "table" ∷ codes "--word" ∷ []) ≡ None }
+    ensures two_words { asked (codes "pareas" ∷ codes "table" ∷ codes "--word" ∷ codes "a" ∷ codes "--word" ∷ codes "b" ∷ []) ≡ None }
     ensures drill { asked (codes "pareas" ∷ codes "drill" ∷ codes "--seed" ∷ codes "1" ∷ codes "--functions" ∷ codes "2" ∷ []) ≡ Some (record { command = Drill 1 2; workers = 4; chunk = 1024 }) }
     ensures seedless { asked (codes "pareas" ∷ codes "drill" ∷ codes "--functions" ∷ codes "2" ∷ []) ≡ None }
     ensures bare { asked (codes "pareas" ∷ []) ≡ None }

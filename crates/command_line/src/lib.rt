@@ -6,8 +6,10 @@ mod laws;
 mod options;
 mod parser;
 mod request;
+mod word;
 
 pub use command::Command;
 pub use laws::{taken_words_ask, worked_words};
 pub use parser::{Refusal, read};
 pub use request::Request;
+pub use word::Word;

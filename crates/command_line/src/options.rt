@@ -2,28 +2,28 @@
 
 ghost use Rattle.std.specs.Prelude.{◌≡◌, IfOk, false};
 ghost use Rattle.clap.specs.Words.{app_of, rule_of, shape_of};
-ghost use Rattle.command_line.specs.Words.{app, bare_app, build_shape, run_shape, emu_shape, dump_shape, asm_shape, table_shape, drill_shape, workers_option, chunk_option, steps_option, seed_option, functions_option, number_option, with_default, required};
+ghost use Rattle.command_line.specs.Words.{app, bare_app, build_shape, run_shape, emu_shape, dump_shape, asm_shape, table_shape, drill_shape, workers_option, chunk_option, steps_option, seed_option, functions_option, word_option, value_option, with_default, required};
 
 use clap::builder::ValueParser;
 use clap::{Arg, ArgAction, Command, value_parser};
 use std::alloc::{AllocError, Global};
 
-// An option `--name N` with a number.
-fn number_option<'a>(
+// An option `--name N` with a value.
+fn value_option<'a>(
     alloc: Global,
     name: &'a str,
     letter: &'a str,
-    numbers: ValueParser<'a>,
+    values: ValueParser<'a>,
     help: &'a str,
 ) -> Arg<'a>
-    ensures rule { rule_of result ≡ number_option name.entry.now numbers.entry }
+    ensures rule { rule_of result ≡ value_option name.entry.now values.entry }
     ensures local { result.global ≡ false }
 {
     Arg::new(alloc, name)
         .long(name)
         .action(ArgAction::Set)
         .value_name(letter)
-        .value_parser(numbers)
+        .value_parser(values)
         .help(help)
 }
 
@@ -36,10 +36,10 @@ fn default_option<'a>(
     default: &'a str,
     help: &'a str,
 ) -> Arg<'a>
-    ensures rule { rule_of result ≡ with_default (number_option name.entry.now numbers.entry) default.entry.now }
+    ensures rule { rule_of result ≡ with_default (value_option name.entry.now numbers.entry) default.entry.now }
     ensures local { result.global ≡ false }
 {
-    number_option(alloc, name, letter, numbers, help).default_value(default)
+    value_option(alloc, name, letter, numbers, help).default_value(default)
 }
 
 // An option with a number, which has to be given.
@@ -50,10 +50,10 @@ fn required_option<'a>(
     numbers: ValueParser<'a>,
     help: &'a str,
 ) -> Arg<'a>
-    ensures rule { rule_of result ≡ required (number_option name.entry.now numbers.entry) }
+    ensures rule { rule_of result ≡ required (value_option name.entry.now numbers.entry) }
     ensures local { result.global ≡ false }
 {
-    number_option(alloc, name, letter, numbers, help).required(true)
+    value_option(alloc, name, letter, numbers, help).required(true)
 }
 
 fn workers<'a>(alloc: Global) -> Arg<'a>
@@ -99,6 +99,14 @@ fn functions<'a>(alloc: Global) -> Arg<'a>
     let numbers = value_parser!(u64).range(1..=4096);
     let help = "Functions of the text beside main, 1 to 4096";
     required_option(alloc, "functions", "K", numbers, help)
+}
+
+fn word<'a>(alloc: Global) -> Arg<'a>
+    ensures rule { rule_of result ≡ word_option }
+    ensures local { result.global ≡ false }
+{
+    let help = "Parse this word: names separated by spaces";
+    value_option(alloc, "word", "W", value_parser!(String), help)
 }
 
 fn build<'a>(alloc: Global) -> Result<Command<'a>, AllocError>
@@ -150,12 +158,14 @@ fn asm<'a>(alloc: Global) -> Command<'a>
     )
 }
 
-fn table<'a>(alloc: Global) -> Command<'a>
-    ensures { shape_of result ≡ table_shape }
+fn table<'a>(alloc: Global) -> Result<Command<'a>, AllocError>
+    ensures { IfOk result (λ c. shape_of c ≡ table_shape) }
 {
-    Command::new(alloc, "table").about(
-        "Makes the LLP(1,1) tables of a grammar from standard input: prints their sizes, or a conflict",
-    )
+    Command::new(alloc, "table")
+        .about(
+            "Makes the LLP tables of a grammar from standard input: prints their sizes and the parse of a word, or a conflict",
+        )
+        .arg(word(alloc))
 }
 
 fn drill<'a>(alloc: Global) -> Result<Command<'a>, AllocError>
@@ -193,6 +203,6 @@ pub(crate) fn command<'a>(alloc: Global) -> Result<Command<'a>, AllocError>
         .subcommand(emu(alloc)?)?
         .subcommand(dump(alloc))?
         .subcommand(asm(alloc))?
-        .subcommand(table(alloc))?
+        .subcommand(table(alloc)?)?
         .subcommand(drill(alloc)?)
 }

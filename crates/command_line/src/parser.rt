@@ -10,6 +10,7 @@ ghost use Rattle.clap.specs.declared.error.kind.ErrorKind.TheVariants as ErrorKi
 use crate::command::Command;
 use crate::options::command;
 use crate::request::Request;
+use crate::word::Word;
 use chunk_seats::Plan;
 use clap::error::ErrorKind;
 use clap::{ArgMatches, Error};
@@ -62,12 +63,22 @@ fn alone() -> Plan
     }
 }
 
-// What a subcommand asks for.
-fn request(name: &str, options: &ArgMatches<'_>) -> Request
-    requires { HasNumbers (rows_of (found_of options.now)) name.now }
-    ensures { result ≡ asked_by name.now (rows_of (found_of options.now)) }
+// The word that is to be parsed, where one is given.
+fn word(alloc: Global, options: &ArgMatches<'_>) -> Result<Option<Word>, AllocError>
+    ensures { IfOk result (λ word. word ≡ first_of (codes "word") (rows_of (found_of options.now))) }
 {
-    match name {
+    match options.get_str("word") {
+        Some(text) => Ok(Some(Word::from_str(alloc, text)?)),
+        None => Ok(None),
+    }
+}
+
+// What a subcommand asks for.
+fn request(alloc: Global, name: &str, options: &ArgMatches<'_>) -> Result<Request, AllocError>
+    requires { HasNumbers (rows_of (found_of options.now)) name.now }
+    ensures { IfOk result (λ request. request ≡ asked_by name.now (rows_of (found_of options.now))) }
+{
+    let request = match name {
         "build" => Request {
             command: Command::Build,
             plan: plan(options),
@@ -100,10 +111,13 @@ fn request(name: &str, options: &ArgMatches<'_>) -> Request
             plan: plan(options),
         },
         _ => Request {
-            command: Command::Table,
+            command: Command::Table {
+                word: word(alloc, options)?,
+            },
             plan: alone(),
         },
-    }
+    };
+    Ok(request)
 }
 
 // Why clap refused the words.
@@ -130,5 +144,5 @@ pub fn read(alloc: Global, words: &[String]) -> Result<Request, Refusal>
         Err(error) => return Err(refused_by(alloc, &error)),
     };
     let (name, options) = matches.subcommand().unwrap();
-    Ok(request(name, options))
+    Ok(request(alloc, name, options)?)
 }

@@ -16,6 +16,9 @@ const GRAMMAR: &[u8] = b"S -> a S b\nS ->\n";
 
 const SIZES: &[u8] = b"terminals 2\nnonterminals 1\nproductions 2\nentries 6\n";
 
+const SIZES_AND_PARSE: &[u8] =
+    b"terminals 2\nnonterminals 1\nproductions 2\nentries 6\nparse 1 2\n";
+
 /// Fails the write behind so many bytes of the output.
 fn fail_output<R: Threads + Abort + Sync>(
     rt: &R,
@@ -118,12 +121,13 @@ fn a_drill_whose_write_fails_in_the_last_line(rt: HostRuntime) -> Result<(), Fai
 
 #[test]
 fn lines_whose_write_fails(rt: HostRuntime) -> Result<(), Fail> {
-    let rows: [(&[&str], &[u8], &[u8]); 5] = [
+    let rows: [(&[&str], &[u8], &[u8]); 6] = [
         (&["run"], SEVEN, b"exit 7\n"),
         (&["emu"], &SEVEN_FILE, b"exit 7\n"),
         (&["dump"], &SEVEN_FILE, SEVEN_LISTING),
         (&["asm"], SEVEN_LISTING, &SEVEN_FILE),
         (&["table"], GRAMMAR, SIZES),
+        (&["table", "--word", "a b"], GRAMMAR, SIZES_AND_PARSE),
     ];
     for (words, input, out) in rows {
         fail_each(&rt, rt.alloc(), Call { words, input }, out, (0, out.len()))?;
@@ -132,7 +136,7 @@ fn lines_whose_write_fails(rt: HostRuntime) -> Result<(), Fail> {
 }
 
 /// Calls that are refused: the words, the input, the status and the line.
-const REFUSALS: [(&[&str], &[u8], Status, &[u8]); 8] = [
+const REFUSALS: [(&[&str], &[u8], Status, &[u8]); 9] = [
     (&["build"], b"", Status::Refused, b"error 405 at 1:1\n"),
     (&["run"], b"", Status::Refused, b"error 405 at 1:1\n"),
     (&["emu"], b"", Status::BadImage, b"image Short\n"),
@@ -144,6 +148,12 @@ const REFUSALS: [(&[&str], &[u8], Status, &[u8]); 8] = [
         b"S -> S a\nS -> b\n",
         Status::Conflict,
         b"left recursive S\n",
+    ),
+    (
+        &["table", "--word", "a a b"],
+        GRAMMAR,
+        Status::Refused,
+        b"syntax 3\n",
     ),
     (&["--version"], b"", Status::Usage, b"pareas 0.1.0\n"),
 ];
@@ -173,13 +183,14 @@ fn a_refusal_needs_no_output(rt: HostRuntime) -> Result<(), Fail> {
 
 #[test]
 fn a_result_needs_no_notes(rt: HostRuntime) -> Result<(), Fail> {
-    let rows: [(&[&str], &[u8], &[u8]); 7] = [
+    let rows: [(&[&str], &[u8], &[u8]); 8] = [
         (&["build"], SEVEN, &SEVEN_FILE),
         (&["run"], SEVEN, b"exit 7\n"),
         (&["emu"], &SEVEN_FILE, b"exit 7\n"),
         (&["dump"], &SEVEN_FILE, SEVEN_LISTING),
         (&["asm"], SEVEN_LISTING, &SEVEN_FILE),
         (&["table"], GRAMMAR, SIZES),
+        (&["table", "--word", "a b"], GRAMMAR, SIZES_AND_PARSE),
         (&DRILL, b"", DRILL_LINES),
     ];
     for (words, input, out) in rows {

@@ -15,22 +15,14 @@ use Rattle.command_line.specs.declared.command.Command.TheVariants.{Build, Run, 
 use Rattle.elf_file.specs.Image.{elf}
 use Rattle.elf_file.specs.declared.fault.ElfFault.{ElfFault}
 use Rattle.elf_text.specs.Listing.{dumped, file_of_text}
-use Rattle.rv_text.specs.FaultLines.{line_of_fault as line_of_asm_fault}
 use Rattle.rv_text.specs.declared.fault.AsmFault.{AsmFault}
 use Rattle.rv_code.specs.Code.{words}
 use Rattle.rv32_emul.specs.Machine.{Outcome, Exits, Faults, More, machine}
 use Rattle.simulation.specs.Behaves.{Behaves, IsFaulty, Overruns}
-use Rattle.grammar_file.specs.Grammar.{Grammar}
-use Rattle.grammar_file.specs.Spelling.{Spells}
-use Rattle.grammar_file.specs.declared.file.GrammarFault.{GrammarFault}
-use Rattle.grammar_file.specs.FaultLines.{line_of_fault as line_of_grammar_fault}
-use Rattle.llp_tables.specs.Predict.{IsLl1}
-use Rattle.llp_tables.specs.Lookback.{IsLlp}
-use Rattle.llp_tables.specs.Tables.{IsTableFault}
-use Rattle.llp_tables.specs.Pairs.{CountsPairs}
-use Rattle.llp_tables.specs.FaultLines.{line_of_fault}
-use Rattle.llp_tables.specs.declared.fault.TableFault.{TableFault}
-use Rattle.pareas_core.specs.Output.{Due, noted, done, due_of_verdict, due_of_machine, due_of_dump, due_of_asm, due_of_drill, drill_lines, drill_steps, IsDueOfGrammar, conflicting, sized, sizes, IsDue, built, ran, emulated, listed, assembled, bad_grammar, tabled, drilled}
+use Rattle.table_text.specs.Answers.{IsTableAnswer}
+use Rattle.table_text.specs.declared.answer.TableAnswer.{TableAnswer}
+use Rattle.table_text.specs.declared.answer.TableAnswer.TheVariants as answers
+use Rattle.pareas_core.specs.Output.{Due, done, due_of_verdict, due_of_machine, due_of_dump, due_of_asm, due_of_drill, drill_lines, drill_steps, due_of_table, IsDue, built, ran, emulated, listed, assembled, tabled, drilled}
 use Rattle.pareas_core.specs.Reading.{ReadsUpTo, WritesPrefix}
 use Rattle.pareas_core.specs.Headline.{CompilesTo, RunsAs, Runs, what_was_read, what_was_made, HasRun, HasRead, IsToldOf, reads, most_bytes, read_by, End, HasFailed, HasWorked, GotPrefix, IsWritten, IsAnswer, MeetsWords, IsResponse, IsDelivered, whole, broken_off}
 
@@ -117,8 +109,8 @@ no_dump_run bytes source steps r = elim r [ ]
 no_asm_run : (bytes source : List ℕ) (steps : ℕ) → Runs Asm bytes source steps → ⊥
 no_asm_run bytes source steps r = elim r [ ]
 
-no_table_run : (bytes source : List ℕ) (steps : ℕ) → Runs Table bytes source steps → ⊥
-no_table_run bytes source steps r = elim r [ ]
+no_table_run : (word : Option (List ℕ)) (bytes source : List ℕ) (steps : ℕ) → Runs (Table word) bytes source steps → ⊥
+no_table_run word bytes source steps r = elim r [ ]
 
 -- an image that was built
 pub compiled : (bytes out notes : List ℕ) → CompilesTo bytes out → OneVerdict bytes → notes ≡ []
@@ -241,56 +233,18 @@ listed_and_assembled again fits source file k =
 
 -- ---- a grammar file
 
-abbrev OneSpelling : List ℕ → Type 0
-OneSpelling bytes = (a b : Result Grammar GrammarFault) → Spells bytes a → Spells bytes b → a ≡ b
-
--- what the laws of tables say of a grammar
-pub record OneAnswer (g : Grammar) : Type 0 where
-  pub fault : (f h : TableFault) → IsTableFault g f → IsTableFault g h → f ≡ h
-  pub no_tables : (f : TableFault) → IsTableFault g f → IsLl1 g → IsLlp g → ⊥
-  pub count : (m n : ℕ) → CountsPairs g m → CountsPairs g n → m ≡ n
-
-one_due : (g : Grammar) (d e : Due) → OneAnswer g → IsDueOfGrammar g d → IsDueOfGrammar g e → e ≡ d
-one_due g _ _ one (conflicting f is) (conflicting h other) = ap (λ f. noted statuses.Conflict (line_of_fault g f)) (one.fault h f other is)
-one_due g _ _ one (conflicting f is) (sized n ll1 llp count) = absurd (one.no_tables f is ll1 llp)
-one_due g _ _ one (sized m ll1 llp count) (conflicting f is) = absurd (one.no_tables f is ll1 llp)
-one_due g _ _ one (sized m ll1 llp count) (sized n also_ll1 also_llp other) = ap (λ n. done (sizes g n)) (one.count n m other count)
-
-grammar_of : Grammar → Result Grammar GrammarFault → Grammar
-grammar_of d (Ok g) = g
-grammar_of d (Err f) = d
-
-fault_of : GrammarFault → Result Grammar GrammarFault → GrammarFault
-fault_of d (Ok g) = d
-fault_of d (Err f) = f
-
-table_due : (bytes : List ℕ) (g : Grammar) (d e : Due) → Spells bytes (Ok g) → OneSpelling bytes → OneAnswer g → IsDueOfGrammar g d → IsDue Table bytes e → e ≡ d
-unfolding grammar_of
-table_due bytes g d _ is one answer due (bad_grammar f other) = let e : Ok g ≡ Err f = one (Ok g) (Err f) is other in cc
-table_due bytes g d e is one answer due (tabled h other also) =
-    let same : h ≡ g = ap (grammar_of g) (one (Ok h) (Ok g) other is) in
-    one_due g d e answer due (subst (λ k. IsDueOfGrammar k e) same also)
-
-bad_due : (bytes : List ℕ) (f : GrammarFault) (e : Due) → Spells bytes (Err f) → OneSpelling bytes → IsDue Table bytes e → e ≡ noted statuses.BadGrammar (line_of_grammar_fault f)
-unfolding fault_of
-bad_due bytes f _ is one (bad_grammar h other) = ap (λ f. noted statuses.BadGrammar (line_of_grammar_fault f)) (ap (fault_of f) (one (Err h) (Err f) other is))
-bad_due bytes f e is one (tabled h other also) = let e : Err f ≡ Ok h = one (Err f) (Ok h) is other in cc
+table_due : (word : Option (List ℕ)) (bytes : List ℕ) (e : Due) → IsDue (Table word) bytes e → (answer : TableAnswer) × IsTableAnswer bytes word answer × (e ≡ due_of_table answer)
+table_due word bytes _ (tabled {answer = answer} is) = (answer, is, refl)
 
 -- a table's response is neither built nor run
-of_table : (bytes : List ℕ) (d : Due) → IsDue Table bytes d → ((e : Due) → IsDue Table bytes e → e ≡ d) → IsResponse Table bytes d
-of_table bytes d due only = record {
-  due = due;
-  only = only;
-  built = λ build is_done. let e : Table ≡ Build = build in cc;
-  ran = λ source n runs h. absurd (no_table_run bytes source n runs);
+pub tables : (word : Option (List ℕ)) (bytes : List ℕ) (answer : TableAnswer) (d : Due) → ((a b : TableAnswer) → IsTableAnswer bytes word a → IsTableAnswer bytes word b → a ≡ b)
+    → IsTableAnswer bytes word answer → d ≡ due_of_table answer → IsResponse (Table word) bytes d
+tables word bytes answer d one is same = record {
+  due = subst (IsDue (Table word) bytes) (sym same) (tabled is);
+  only = λ e h. let other = table_due word bytes e h in other.2 ∙ ap due_of_table (one other.0 answer other.1 is) ∙ sym same;
+  built = λ build is_done. let e : Table word ≡ Build = build in cc;
+  ran = λ source n runs h. absurd (no_table_run word bytes source n runs);
 }
-
-pub tables_or_conflict : (bytes : List ℕ) (g : Grammar) (d : Due) → Spells bytes (Ok g) → OneSpelling bytes → OneAnswer g → IsDueOfGrammar g d → IsResponse Table bytes d
-tables_or_conflict bytes g d is one answer due = of_table bytes d (tabled g is due) (λ e. table_due bytes g d e is one answer due)
-
-pub no_grammar : (bytes : List ℕ) (f : GrammarFault) (d : Due) → Spells bytes (Err f) → OneSpelling bytes → d ≡ noted statuses.BadGrammar (line_of_grammar_fault f) → IsResponse Table bytes d
-no_grammar bytes f d is one same =
-    subst (IsResponse Table bytes) (sym same) (of_table bytes _ (bad_grammar f is) (λ e. bad_due bytes f e is one))
 
 -- ---- what the outputs got
 
@@ -349,10 +303,12 @@ verdict_outcome f bytes (Diagnosed code place) h = tt
 verdict_outcome f bytes (Limited code place n) h = tt
 verdict_outcome f bytes (Accepted p) h = h p
 
-grammar_outcome : (g : Grammar) (d : Due) → IsDueOfGrammar g d → IsOutcome d.status
+table_outcome : (answer : TableAnswer) → IsOutcome (due_of_table answer).status
 unfolding IsOutcome
-grammar_outcome g _ (conflicting f is) = tt
-grammar_outcome g _ (sized n ll1 llp count) = tt
+table_outcome (answers.Tabled text) = tt
+table_outcome (answers.NoGrammar text) = tt
+table_outcome (answers.Conflict text) = tt
+table_outcome (answers.Syntax place) = tt
 
 outcome : (c : Command) (bytes : List ℕ) (d : Due) → IsDue c bytes d → IsOutcome d.status
 unfolding IsOutcome
@@ -364,8 +320,7 @@ outcome _ bytes _ (drilled {seed = seed} {functions = functions} {v = v} is) =
 outcome _ bytes _ (emulated {steps = steps}) = machine_outcome [] (machine bytes steps)
 outcome _ bytes _ listed = dump_outcome (dumped bytes)
 outcome _ bytes _ assembled = asm_outcome (file_of_text bytes)
-outcome _ bytes _ (bad_grammar f is) = tt
-outcome _ bytes d (tabled g is due) = grammar_outcome g d due
+outcome _ bytes _ (tabled {answer = answer} is) = table_outcome answer
 
 no_outcome : (s : Status) → (s ≡ statuses.Usage) ⊎ (s ≡ statuses.ReadFault) ⊎ (s ≡ statuses.WriteFault) ⊎ (s ≡ statuses.NoMemory) → IsOutcome s → ⊥
 unfolding IsOutcome

@@ -9,8 +9,8 @@ Rose before now = min (before + 1) (2 ^ 64 - 1) ≤ now
 abbrev pub Stayed : ℕ → ℕ → Type 0
 Stayed before now = (now ≡ before) × (before < 2 ^ 64 - 1)
 
--- a read or a write that succeeds leaves the count, and one that fails raises it
+-- a read or a write that succeeds leaves the count, and one that fails raises it by one, where it can rise
 pub record HasCause {T E : Type 0} (before now : ℕ) (result : Result T E) : Type 0 where
   pub succeeded : OnOk result (now ≡ before)
-  pub failed : OnErr result (Rose before now)
+  pub failed : OnErr result (now ≡ min (before + 1) (2 ^ 64 - 1))
   pub never_falls : before ≤ now

@@ -58,7 +58,7 @@ most_bytes (Run steps) = most_source
 most_bytes (Emu steps) = most_image
 most_bytes Dump = most_image
 most_bytes Asm = most_listing
-most_bytes Table = most_grammar
+most_bytes (Table word) = most_grammar
 most_bytes (Drill seed functions) = 0
 
 -- the bytes that a command reads: those of the input, up to one past its limit

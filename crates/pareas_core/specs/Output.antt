@@ -1,5 +1,5 @@
 -- What the program writes for a command and the bytes that it read, and its status.
-use Rattle.std.specs.Prelude.{ℕ, ◌+◌, ◌-◌, false, List, [], ◌∷◌, ◌++◌, length, take, replicate, codes, decimal, fold, count_by, ◌==◌, if◌then◌else◌, Result, Ok, Err}
+use Rattle.std.specs.Prelude.{ℕ, ◌+◌, ◌-◌, false, List, [], ◌++◌, length, take, replicate, codes, decimal, fold, count_by, ◌==◌, if◌then◌else◌, Option, Result, Ok, Err}
 use Rattle.std.specs.Fmt.{signed_decimal, digits}
 use Rattle.command_line.specs.declared.command.Command.{Command}
 use Rattle.command_line.specs.declared.command.Command.TheVariants.{Build, Run, Emu, Dump, Asm, Table, Drill}
@@ -15,16 +15,10 @@ use Rattle.rv_text.specs.declared.fault.AsmFault.{AsmFault}
 use Rattle.rv32_emul.specs.Machine.{Outcome, Exits, Faults, More, machine}
 use Rattle.pareas_core.specs.declared.status.Status.{Status}
 use Rattle.pareas_core.specs.declared.status.Status.TheVariants.{Done, Refused, Limit, Running, Machine, Conflict, BadImage, BadGrammar, BadAsm}
-use Rattle.grammar_file.specs.Grammar.{Grammar}
-use Rattle.grammar_file.specs.Spelling.{Spells}
-use Rattle.grammar_file.specs.declared.file.GrammarFault.{GrammarFault}
-use Rattle.grammar_file.specs.FaultLines.{line_of_fault as line_of_grammar_fault}
-use Rattle.llp_tables.specs.Predict.{IsLl1}
-use Rattle.llp_tables.specs.Lookback.{IsLlp}
-use Rattle.llp_tables.specs.Tables.{IsTableFault}
-use Rattle.llp_tables.specs.Pairs.{CountsPairs}
-use Rattle.llp_tables.specs.FaultLines.{line_of_fault}
-use Rattle.llp_tables.specs.declared.fault.TableFault.{TableFault}
+use Rattle.table_text.specs.Answers.{IsTableAnswer}
+use Rattle.table_text.specs.Lines.{line, counted}
+use Rattle.table_text.specs.declared.answer.TableAnswer.{TableAnswer}
+use Rattle.table_text.specs.declared.answer.TableAnswer.TheVariants as tables
 use Rattle.source_meaning.specs.Ast.{Program}
 use Rattle.source_meaning.specs.Lexemes.{tokens}
 use Rattle.verdict.specs.Verdict.{Verdict, Diagnosed, Limited, Accepted, IsVerdict, image}
@@ -34,9 +28,6 @@ pub record Due : Type 0 where
   pub status : Status
   pub out : List ℕ
   pub notes : List ℕ
-
-abbrev pub line : List ℕ → List ℕ
-line text = text ++ 10 ∷ []
 
 abbrev pub done : List ℕ → Due
 done out = record { status = Done; out = out; notes = [] }
@@ -114,10 +105,6 @@ due_of_asm (Err fault) = noted BadAsm (line_of_asm_fault fault)
 
 -- ---- a text that is made from a seed
 
--- a name and a number
-abbrev pub counted : List ℕ → ℕ → List ℕ
-counted name number = line (name ++ codes " " ++ decimal number)
-
 -- the sizes of a text, in bytes and in tokens, and of its image
 abbrev pub drill_lines : List ℕ → List ℕ → List ℕ
 drill_lines text file =
@@ -133,16 +120,12 @@ due_of_drill text file = due_of_machine (drill_lines text file) (machine file dr
 
 -- ---- the tables of a grammar
 
--- the sizes of a grammar and of its tables
-abbrev pub sizes : Grammar → ℕ → List ℕ
-sizes g entries =
-    counted (codes "terminals") (length g.terminals) ++ counted (codes "nonterminals") (length g.nonterminals)
-    ++ counted (codes "productions") (length g.productions) ++ counted (codes "entries") entries
-
--- what is due for a grammar: the least conflict, or the sizes
-pub data IsDueOfGrammar (g : Grammar) : Due → Type 0 where
-  conflicting : (fault : TableFault) → IsTableFault g fault → IsDueOfGrammar g (noted Conflict (line_of_fault g fault))
-  sized : (entries : ℕ) → IsLl1 g → IsLlp g → CountsPairs g entries → IsDueOfGrammar g (done (sizes g entries))
+-- what is told of a grammar file and of a word
+abbrev pub due_of_table : TableAnswer → Due
+due_of_table (tables.Tabled text) = done text
+due_of_table (tables.NoGrammar text) = noted BadGrammar text
+due_of_table (tables.Conflict text) = noted Conflict text
+due_of_table (tables.Syntax place) = noted Refused (codes "syntax " ++ decimal place)
 
 -- ---- what is due
 
@@ -154,9 +137,7 @@ pub data IsDue : Command → List ℕ → Due → Type 0 where
   emulated : {steps : ℕ} {bytes : List ℕ} → IsDue (Emu steps) bytes (due_of_machine [] (machine bytes steps))
   listed : {bytes : List ℕ} → IsDue Dump bytes (due_of_dump (dumped bytes))
   assembled : {bytes : List ℕ} → IsDue Asm bytes (due_of_asm (file_of_text bytes))
-  -- a file that spells no grammar
-  bad_grammar : {bytes : List ℕ} (fault : GrammarFault) → Spells bytes (Err fault) → IsDue Table bytes (noted BadGrammar (line_of_grammar_fault fault))
-  tabled : {bytes : List ℕ} {d : Due} (g : Grammar) → Spells bytes (Ok g) → IsDueOfGrammar g d → IsDue Table bytes d
+  tabled : {word : Option (List ℕ)} {bytes : List ℕ} {answer : TableAnswer} → IsTableAnswer bytes word answer → IsDue (Table word) bytes (due_of_table answer)
   -- the text of the seed is the source, and a diagnostic tells its place there
   drilled : {seed functions : ℕ} {bytes : List ℕ} {v : Verdict} → IsVerdict (drill_text seed functions) v →
       IsDue (Drill seed functions) bytes

@@ -7,12 +7,12 @@ ghost use Rattle.pareas_core.specs.Headline.{IsResponse};
 ghost use Rattle.pareas_core.specs.Output.{drill_lines, drill_steps};
 
 use crate::compiler::{Compiled, compile_counting};
-use crate::counts::push_count;
 use crate::machine::emulate;
 use crate::response::{Response, refused};
 use drill_source::source;
 use par_passes::Passes;
 use std::alloc::{AllocError, Global};
+use table_text::push_count;
 use verdict::one_verdict;
 
 // The steps that the machine is given.

@@ -3,7 +3,6 @@
 
 mod coding;
 mod compiler;
-mod counts;
 mod drill;
 mod ends;
 mod laws;

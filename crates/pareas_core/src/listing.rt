@@ -15,8 +15,8 @@ use elf_file::ReadError;
 use rv_text::AsmFault;
 use std::alloc::{AllocError, Global};
 
-// A result that is written whole.
-fn written(alloc: Global, out: Vec<u8>) -> Response
+/// A result that is written whole.
+pub(crate) fn written(alloc: Global, out: Vec<u8>) -> Response
     ensures { result ≡ done out.items }
 {
     Response {

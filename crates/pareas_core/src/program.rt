@@ -28,32 +28,36 @@ const MOST_LISTING: usize = 134_217_728;
 const MOST_GRAMMAR: usize = 65_536;
 
 // The most bytes that a command takes.
-fn limit_of(command: Command) -> usize
-    ensures { result ≡ most_bytes command }
+fn limit_of(command: &Command) -> usize
+    ensures { result ≡ most_bytes command.now }
 {
     match command {
         Command::Build | Command::Run { .. } => MOST_SOURCE,
         Command::Emu { .. } | Command::Dump => MOST_IMAGE,
         Command::Asm => MOST_LISTING,
-        Command::Table => MOST_GRAMMAR,
+        Command::Table { .. } => MOST_GRAMMAR,
         Command::Drill { .. } => 0,
     }
 }
 
 // Whether a command reads the input.
-fn reads(command: Command) -> bool
-    ensures { result ≡ reads command }
+fn reads(command: &Command) -> bool
+    ensures { result ≡ reads command.now }
 {
     !matches!(command, Command::Drill { .. })
 }
 
 // What the command reads of the input.
-fn read_for<I: ByteIn>(alloc: Global, input: &mut I, command: Command) -> Result<Vec<u8>, ReadError>
-    ensures ok { IfOk result (λ bytes. HasRead command (I.left input.old) (I.left input.new) bytes.items) }
+fn read_for<I: ByteIn>(
+    alloc: Global,
+    input: &mut I,
+    command: &Command,
+) -> Result<Vec<u8>, ReadError>
+    ensures ok { IfOk result (λ bytes. HasRead command.now (I.left input.old) (I.left input.new) bytes.items) }
     ensures worked { IfOk result (λ _. I.faults input.new ≡ I.faults input.old) }
-    ensures failed { result ≡ Err ReadError.Failed → Rose (I.faults input.old) (I.faults input.new) × (reads command ≡ true) }
+    ensures failed { result ≡ Err ReadError.Failed → Rose (I.faults input.old) (I.faults input.new) × (reads command.now ≡ true) }
     ensures no_memory { result ≡ Err ReadError.NoMemory → I.faults input.new ≡ I.faults input.old }
-    ensures undisturbed { reads command ≡ false → (I.left input.new ≡ I.left input.old) × (I.faults input.new ≡ I.faults input.old) }
+    ensures undisturbed { reads command.now ≡ false → (I.left input.new ≡ I.left input.old) × (I.faults input.new ≡ I.faults input.old) }
 {
     if reads(command) {
         read_up_to(alloc, input, limit_of(command))
@@ -89,7 +93,7 @@ pub fn pareas<R: Threads + Sync, I: ByteIn, O: ByteOut, E: ByteOut, G: Gate>(
         }
         Err(Refusal::NoMemory) => return Status::NoMemory,
     };
-    let bytes = match read_for(alloc, input, command) {
+    let bytes = match read_for(alloc, input, &command) {
         Ok(bytes) => bytes,
         Err(ReadError::Failed) => return Status::ReadFault,
         Err(ReadError::NoMemory) => return Status::NoMemory,
@@ -97,10 +101,10 @@ pub fn pareas<R: Threads + Sync, I: ByteIn, O: ByteOut, E: ByteOut, G: Gate>(
     let crew = Workers {
         runtime: rt,
         alloc,
-        plan: plan_for(plan, command, bytes.len()),
+        plan: plan_for(plan, &command, bytes.len()),
         gate,
     };
-    let Ok(response) = respond(&crew, command, &bytes) else {
+    let Ok(response) = respond(&crew, &command, &bytes) else {
         return Status::NoMemory;
     };
     deliver(&response, out, notes)

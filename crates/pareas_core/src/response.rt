@@ -108,19 +108,19 @@ fn run(crew: &impl Passes, source: &[u8], steps: u32) -> Result<Response, AllocE
 /// The answer to a command for the bytes that it read.
 pub(crate) fn respond(
     crew: &impl Passes,
-    command: Command,
+    command: &Command,
     bytes: &[u8],
 ) -> Result<Response, AllocError>
-    ensures { IfOk result (λ response. IsResponse command bytes.now response) }
+    ensures { IfOk result (λ response. IsResponse command.now bytes.now response) }
 {
     match command {
         Command::Build => build(crew, bytes),
-        Command::Run { steps } => run(crew, bytes, steps),
-        Command::Emu { steps } => emulate(crew.alloc(), Vec::new(crew.alloc()), bytes, steps),
+        Command::Run { steps } => run(crew, bytes, *steps),
+        Command::Emu { steps } => emulate(crew.alloc(), Vec::new(crew.alloc()), bytes, *steps),
         Command::Dump => dump(crew.alloc(), bytes),
         Command::Asm => asm(crew.alloc(), bytes),
-        Command::Table => table(crew.alloc(), bytes),
-        Command::Drill { seed, functions } => drill(crew, seed, functions),
+        Command::Table { word } => table(crew, bytes, word),
+        Command::Drill { seed, functions } => drill(crew, *seed, *functions),
     }
 }
 

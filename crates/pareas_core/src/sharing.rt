@@ -15,15 +15,15 @@ const SMALL_TEXT: usize = 131_072;
 const DRILL_FUNCTION: usize = 122;
 
 // How many bytes the text has that is compiled, for a drill about so many.
-fn text_size(command: Command, bytes: usize) -> usize {
+fn text_size(command: &Command, bytes: usize) -> usize {
     match command {
-        Command::Drill { functions, .. } => (functions as usize).saturating_mul(DRILL_FUNCTION),
+        Command::Drill { functions, .. } => (*functions as usize).saturating_mul(DRILL_FUNCTION),
         _ => bytes,
     }
 }
 
 /// The plan for a command that has read so many bytes: the one that the words name, but one worker for a small text by default.
-pub(crate) fn plan_for(plan: Plan, command: Command, bytes: usize) -> Plan {
+pub(crate) fn plan_for(plan: Plan, command: &Command, bytes: usize) -> Plan {
     let is_default = plan.workers == DEFAULT_WORKERS && plan.chunk == DEFAULT_CHUNK;
     if is_default && text_size(command, bytes) < SMALL_TEXT {
         return Plan {

@@ -7,7 +7,7 @@ ghost use Rattle.pareas_core.specs.Statuses.{number_of};
 pub enum Status {
     /// The command's result was written whole.
     Done,
-    /// The source has a diagnostic.
+    /// The source has a diagnostic, or the word is no sentence.
     Refused,
     /// The words are refused, or ask for help or the version.
     Usage,
@@ -23,7 +23,7 @@ pub enum Status {
     Running,
     /// The machine has faulted.
     Machine,
-    /// The grammar isn't LL(1) and LLP(1,1).
+    /// The grammar isn't LL(1), or not LLP with the look-back that its file asks for.
     Conflict,
     /// The file isn't an image that can be loaded.
     BadImage,

@@ -1,112 +1,75 @@
-// The sizes of a grammar's parse tables, or why it has none.
+// What the program answers to a grammar file, and to a word.
 
-ghost use Rattle.std.specs.Prelude.{◌≡◌, ◌≢◌, false, IfOk};
-ghost use Rattle.grammar_file.specs.declared.file.GrammarFault.TheVariants.{NoMemory as NoMemoryToRead};
-ghost use Rattle.llp_tables.specs.declared.fault.TableFault.TheVariants.{NoMemory as NoMemoryToBuild};
+ghost use Rattle.std.specs.Prelude.{◌≡◌, ◌++◌, codes, decimal, IfOk, option_map};
 ghost use Rattle.command_line.specs.declared.command.Command.TheVariants.{Table};
-ghost use Rattle.grammar_file.specs.FaultLines.{line_of_fault as line_of_grammar_fault};
-ghost use Rattle.llp_tables.specs.FaultLines.{line_of_fault};
-ghost use Rattle.pareas_core.specs.declared.status.Status.TheVariants.{Conflict, BadGrammar};
+ghost use Rattle.pareas_core.specs.declared.status.Status.TheVariants.{Refused};
 ghost use Rattle.pareas_core.specs.Headline.{IsResponse};
-ghost use Rattle.pareas_core.specs.Output.{IsDueOfGrammar, noted, sizes};
+ghost use Rattle.pareas_core.specs.Output.{due_of_table, noted};
 
-use crate::counts::push_count;
+use crate::listing::written;
 use crate::response::Response;
 use crate::status::Status;
-use grammar_file::{
-    Grammar, GrammarFault, files_spell_one_answer, spelled_grammars_are_well_formed,
-};
-use llp_tables::{TableFault, Tables, grammars_have_one_answer};
+use command_line::Word;
+use par_passes::Passes;
 use std::alloc::{AllocError, Global};
+use table_text::{TableAnswer, Text, files_have_one_answer, table_answer};
 
-fn ran_out_reading(fault: &GrammarFault) -> bool
-    ensures { result ≡ false → fault.now ≢ NoMemoryToRead }
+// The bytes of a word, where one is given.
+fn spelling(word: &Option<Word>) -> Option<&[u8]>
+    ensures { option_map (λ bytes. bytes.now) result ≡ word.now }
 {
-    matches!(fault, GrammarFault::NoMemory)
+    match word {
+        Some(word) => Some(word.as_bytes()),
+        None => None,
+    }
 }
 
-fn ran_out_building(fault: &TableFault) -> bool
-    ensures { result ≡ false → fault.now ≢ NoMemoryToBuild }
+// The line of a file without tables.
+fn refused(alloc: Global, status: Status, line: Text) -> Result<Response, AllocError>
+    ensures { IfOk result (λ response. response ≡ noted status line) }
 {
-    matches!(fault, TableFault::NoMemory)
-}
-
-// The refusal of a file that spells no grammar.
-fn bad_grammar(alloc: Global, fault: &GrammarFault) -> Result<Response, AllocError>
-    ensures { IfOk result (λ response. response ≡ noted BadGrammar (line_of_grammar_fault fault.now)) }
-{
-    Ok(Response {
-        status: Status::BadGrammar,
-        out: Vec::new(alloc),
-        notes: format!(in alloc; "{fault}\n")?.into_bytes(),
-    })
-}
-
-// The refusal of a grammar that has no tables.
-fn conflict(alloc: Global, grammar: &Grammar, fault: &TableFault) -> Result<Response, AllocError>
-    ensures { IfOk result (λ response. response ≡ noted Conflict (line_of_fault grammar.now fault.now)) }
-{
-    let mut notes = fault.line(alloc, grammar)?;
+    let mut notes = line.into_bytes();
     notes.push(b'\n')?;
     Ok(Response {
-        status: Status::Conflict,
+        status,
         out: Vec::new(alloc),
         notes,
     })
 }
 
-// The lines of a grammar's and its tables' sizes.
-fn lines(alloc: Global, grammar: &Grammar, entries: u64) -> Result<Vec<u8>, AllocError>
-    ensures { IfOk result (λ text. text.items ≡ sizes grammar.now entries) }
+// The line of a word that is no sentence.
+fn syntax(alloc: Global, at: u64) -> Result<Response, AllocError>
+    ensures { IfOk result (λ response. response ≡ noted Refused (codes "syntax " ++ decimal at)) }
 {
-    let mut text = Vec::new(alloc);
-    push_count(
-        alloc,
-        &mut text,
-        b"terminals",
-        u64::from(grammar.terminal_count()),
-    )?;
-    push_count(
-        alloc,
-        &mut text,
-        b"nonterminals",
-        u64::from(grammar.nonterminal_count()),
-    )?;
-    push_count(
-        alloc,
-        &mut text,
-        b"productions",
-        u64::from(grammar.production_count()),
-    )?;
-    push_count(alloc, &mut text, b"entries", entries)?;
-    Ok(text)
+    Ok(Response {
+        status: Status::Refused,
+        out: Vec::new(alloc),
+        notes: format!(in alloc; "syntax {at}\n")?.into_bytes(),
+    })
 }
 
-// The sizes of a grammar's tables, or its conflict.
-fn table_of(alloc: Global, grammar: &Grammar) -> Result<Response, AllocError>
-    ensures { IfOk result (λ response. IsDueOfGrammar grammar.now response) }
+// The response that tells the answer.
+fn response(alloc: Global, answer: TableAnswer) -> Result<Response, AllocError>
+    ensures { IfOk result (λ response. response ≡ due_of_table answer) }
 {
-    match Tables::build(alloc, grammar) {
-        Ok(tables) => Ok(Response {
-            status: Status::Done,
-            out: lines(alloc, grammar, tables.entries())?,
-            notes: Vec::new(alloc),
-        }),
-        Err(fault) if ran_out_building(&fault) => Err(AllocError),
-        Err(fault) => conflict(alloc, grammar, &fault),
+    match answer {
+        TableAnswer::Tabled(text) => Ok(written(alloc, text.into_bytes())),
+        TableAnswer::NoGrammar(line) => refused(alloc, Status::BadGrammar, line),
+        TableAnswer::Conflict(line) => refused(alloc, Status::Conflict, line),
+        TableAnswer::Syntax { at } => syntax(alloc, at),
     }
 }
 
-/// The sizes of the tables of the grammar that the file spells, or the first fault of either.
-pub(crate) fn table(alloc: Global, file: &[u8]) -> Result<Response, AllocError>
-    ensures { IfOk result (λ response. IsResponse Table file.now response) }
+/// The sizes of the tables of the grammar that the file spells, and the parse of the word, or the first fault of the file, of its
+/// grammar or of the word.
+pub(crate) fn table(
+    crew: &impl Passes,
+    file: &[u8],
+    word: &Option<Word>,
+) -> Result<Response, AllocError>
+    ensures { IfOk result (λ response. IsResponse (Table word.now) file.now response) }
 {
-    files_spell_one_answer();
-    spelled_grammars_are_well_formed();
-    grammars_have_one_answer();
-    match Grammar::read(alloc, file) {
-        Ok(grammar) => table_of(alloc, &grammar),
-        Err(fault) if ran_out_reading(&fault) => Err(AllocError),
-        Err(fault) => bad_grammar(alloc, &fault),
-    }
+    files_have_one_answer();
+    let answer = table_answer(crew, file, spelling(word))?;
+    response(crew.alloc(), answer)
 }

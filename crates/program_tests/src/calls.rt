@@ -2,7 +2,6 @@ ghost use Rattle.std.specs.Prelude.{◌≤◌};
 
 use chunk_seats::OpenGate;
 use elf_file::write;
-use grammar_file::G1;
 use pareas_core::{ByteIn, MemoryIn, MemoryOut, Status, pareas};
 use std::alloc::{AllocError, Global};
 use std::process::Abort;
@@ -26,7 +25,7 @@ const SEVEN_FILE: [u8; 144] = [
 
 /// How the ends behave: the bytes of one call, and the calls that fail.
 #[derive(Clone, Copy)]
-struct Ends<'a> {
+pub(crate) struct Ends<'a> {
     read_step: usize,
     failing_reads: &'a [u64],
     write_step: usize,
@@ -38,7 +37,8 @@ struct Ends<'a> {
 /// Room for more bytes than any of these calls writes.
 const ROOM: usize = 1 << 16;
 
-const SOUND: Ends = Ends {
+/// Ends that never fail.
+pub(crate) const SOUND: Ends = Ends {
     read_step: 4096,
     failing_reads: &[],
     write_step: 4096,
@@ -55,7 +55,7 @@ fn words_of(alloc: Global, words: &[&str]) -> Result<Vec<String>, AllocError> {
 }
 
 /// Runs the program over memory, and sees that it ends so and has written this.
-fn expect<R: Threads + Abort + Sync>(
+pub(crate) fn expect<R: Threads + Abort + Sync>(
     rt: &R,
     alloc: Global,
     words: &[&str],
@@ -482,101 +482,6 @@ fn faults_of_the_ends(rt: HostRuntime) -> Result<(), Fail> {
         &notes,
         (Status::WriteFault, b"", b""),
     )?;
-    Ok(())
-}
-
-/// Runs `table` over a grammar file, and sees that it ends so and has written this.
-fn expect_table<R: Threads + Abort + Sync>(
-    rt: &R,
-    alloc: Global,
-    file: &[u8],
-    answer: (Status, &[u8], &[u8]),
-) -> Result<(), AllocError> {
-    expect(rt, alloc, &["pareas", "table"], file, &SOUND, answer)
-}
-
-#[test]
-fn tables_have_sizes(rt: HostRuntime) -> Result<(), Fail> {
-    let rows: [(&[u8], &[u8]); 5] = [
-        (
-            G1,
-            b"terminals 29\nnonterminals 26\nproductions 53\nentries 237\n",
-        ),
-        (
-            b"S -> a S b\nS ->\n",
-            b"terminals 2\nnonterminals 1\nproductions 2\nentries 6\n",
-        ),
-        (
-            b"S -> a",
-            b"terminals 1\nnonterminals 1\nproductions 1\nentries 2\n",
-        ),
-        (
-            b"S ->",
-            b"terminals 0\nnonterminals 1\nproductions 1\nentries 1\n",
-        ),
-        (
-            b"S -> N a\nN ->\n",
-            b"terminals 1\nnonterminals 2\nproductions 2\nentries 2\n",
-        ),
-    ];
-    for (file, sizes) in rows {
-        expect_table(&rt, rt.alloc(), file, (Status::Done, sizes, b""))?;
-    }
-    Ok(())
-}
-
-#[test]
-fn grammars_have_conflicts(rt: HostRuntime) -> Result<(), Fail> {
-    let rows: [(&[u8], &[u8]); 6] = [
-        (
-            b"S -> p E q\nS -> c E T q\nE -> i\nT -> d E T\nT ->\n",
-            b"conflict i q: q | T q\n",
-        ),
-        (b"S -> a\nS -> a b\n", b"conflict S on a: productions 1 2\n"),
-        (b"S -> S a\nS -> b\n", b"left recursive S\n"),
-        (b"S -> T S a\nS -> b\nT ->\n", b"left recursive S\n"),
-        (
-            b"S -> A b\nA -> a A N\nA -> c\nN ->\n",
-            b"conflict c b: b | N b\n",
-        ),
-        (
-            b"S -> A\nA -> a\nA ->\nA -> N\nN ->\n",
-            b"conflict A on END: productions 3 4\n",
-        ),
-    ];
-    for (file, line) in rows {
-        expect_table(&rt, rt.alloc(), file, (Status::Conflict, b"", line))?;
-    }
-    Ok(())
-}
-
-#[test]
-fn files_spell_no_grammar(rt: HostRuntime) -> Result<(), Fail> {
-    let rows: [(&[u8], &[u8]); 6] = [
-        (b"", b"grammar empty\n"),
-        (b"A B", b"grammar line 1\n"),
-        (b"S -> S a", b"grammar unproductive S\n"),
-        (b"S -> a\nT -> b\n", b"grammar unreachable T\n"),
-        (b"S ->a", b"grammar line 1\n"),
-        (b"S -> END", b"grammar line 1\n"),
-    ];
-    for (file, line) in rows {
-        expect_table(&rt, rt.alloc(), file, (Status::BadGrammar, b"", line))?;
-    }
-    Ok(())
-}
-
-#[test]
-fn grammar_files_have_a_limit(rt: HostRuntime) -> Result<(), Fail> {
-    let mut file = b"S -> a\n".to_vec(rt.alloc())?;
-    for _ in file.len()..65_536 {
-        file.push(b' ')?;
-    }
-    let sizes = b"terminals 1\nnonterminals 1\nproductions 1\nentries 2\n";
-    expect_table(&rt, rt.alloc(), &file, (Status::Done, sizes, b""))?;
-    file.push(b' ')?;
-    let refusal = b"grammar too large\n";
-    expect_table(&rt, rt.alloc(), &file, (Status::BadGrammar, b"", refusal))?;
     Ok(())
 }
 

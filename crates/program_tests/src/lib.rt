@@ -6,4 +6,6 @@ mod calls;
 #[cfg(test)]
 mod overlap;
 #[cfg(test)]
+mod tables;
+#[cfg(test)]
 mod words;

@@ -1,4 +1,4 @@
-use command_line::{Command, Refusal, read};
+use command_line::{Command, Refusal, Request, read};
 use std::alloc::{AllocError, Global};
 use std::test::Fail;
 
@@ -10,13 +10,30 @@ fn words(alloc: Global, line: &str) -> Result<Vec<String>, AllocError> {
     Ok(words)
 }
 
-/// What a command line asks for, with its numbers of workers and of items, where it asks for something.
-fn asked(alloc: Global, line: &str) -> Result<Option<(Command, u32, u32)>, AllocError> {
+/// What a command line asks for, with its numbers of workers and of items, or nothing.
+fn asked(alloc: Global, line: &str) -> Result<String, AllocError> {
     let words = words(alloc, line)?;
     match read(alloc, &words) {
-        Ok(request) => Ok(Some((request.command, request.plan.workers, request.plan.chunk))),
-        Err(Refusal::Usage(_)) => Ok(None),
+        Ok(Request { command, plan }) => {
+            format!(in alloc; "{command:?} {} {}", plan.workers, plan.chunk)
+        }
+        Err(Refusal::Usage(_)) => Ok(String::new(alloc)),
         Err(Refusal::NoMemory) => Err(AllocError),
+    }
+}
+
+/// Whether the words ask for the tables of a grammar, and for this word to be parsed.
+fn is_asked_to_parse(alloc: Global, words: &[&str], spelling: &str) -> Result<bool, AllocError> {
+    let mut all = Vec::new(alloc);
+    for word in words {
+        all.push(String::from_str(alloc, word)?)?;
+    }
+    match read(alloc, &all) {
+        Ok(request) => match request.command {
+            Command::Table { word: Some(word) } => Ok(word.as_bytes() == spelling.as_bytes()),
+            _ => Ok(false),
+        },
+        Err(_) => Ok(false),
     }
 }
 
@@ -32,90 +49,88 @@ fn refused_with(alloc: Global, line: &str) -> Result<Option<String>, AllocError>
 
 #[test]
 fn words_ask_for_commands(rt: HostRuntime) -> Result<(), Fail> {
-    let run = Command::Run { steps: 1_000_000 };
     let rows = [
-        ("pareas build", Some((Command::Build, 4, 1024))),
-        (
-            "pareas build --workers 64 --chunk=65536",
-            Some((Command::Build, 64, 65_536)),
-        ),
-        ("pareas run", Some((run, 4, 1024))),
+        ("pareas build", "Build 4 1024"),
+        ("pareas build --workers 64 --chunk=65536", "Build 64 65536"),
+        ("pareas run", "Run { steps: 1000000 } 4 1024"),
         (
             "pareas run --steps 14 --workers 1",
-            Some((Command::Run { steps: 14 }, 1, 1024)),
+            "Run { steps: 14 } 1 1024",
         ),
         (
             "pareas emu --steps 1000000000",
-            Some((
-                Command::Emu {
-                    steps: 1_000_000_000,
-                },
-                1,
-                1,
-            )),
+            "Emu { steps: 1000000000 } 1 1",
         ),
-        (
-            "pareas emu --steps +007",
-            Some((Command::Emu { steps: 7 }, 1, 1)),
-        ),
-        ("pareas dump", Some((Command::Dump, 1, 1))),
-        ("pareas asm", Some((Command::Asm, 1, 1))),
-        ("pareas table", Some((Command::Table, 1, 1))),
+        ("pareas emu --steps +007", "Emu { steps: 7 } 1 1"),
+        ("pareas dump", "Dump 1 1"),
+        ("pareas asm", "Asm 1 1"),
+        ("pareas table", "Table { word: None } 1 1"),
         (
             "pareas drill --seed 1 --functions 2",
-            Some((
-                Command::Drill {
-                    seed: 1,
-                    functions: 2,
-                },
-                4,
-                1024,
-            )),
+            "Drill { seed: 1, functions: 2 } 4 1024",
         ),
         (
             "pareas drill --functions 4096 --chunk 7 --seed 4294967295 --workers 64",
-            Some((
-                Command::Drill {
-                    seed: 4_294_967_295,
-                    functions: 4096,
-                },
-                64,
-                7,
-            )),
+            "Drill { seed: 4294967295, functions: 4096 } 64 7",
         ),
-        ("pareas drill --seed 1 --functions 0", None),
-        ("pareas drill --seed 1 --functions 4097", None),
-        ("pareas drill --seed 4294967296 --functions 1", None),
-        ("pareas drill --functions 1", None),
-        ("pareas drill --seed 1", None),
-        ("pareas drill --seed 1 --functions 1 --steps 1", None),
-        ("pareas dump --steps 1", None),
-        ("pareas dump --chunk 1", None),
-        ("pareas dump seven.elf", None),
-        ("pareas asm --steps 1", None),
-        ("pareas asm --workers 1", None),
-        ("pareas asm dump", None),
-        ("pareas table --workers 1", None),
-        ("pareas table --steps 1", None),
-        ("pareas", None),
-        ("pareas bild", None),
-        ("pareas build run", None),
-        ("pareas build --workers 0", None),
-        ("pareas build --workers 65", None),
-        ("pareas build --chunk 65537", None),
-        ("pareas build --chunk x", None),
-        ("pareas build --steps 3", None),
-        ("pareas emu --workers 1", None),
-        ("pareas run --steps", None),
-        ("pareas run --steps 1 --steps 1", None),
-        ("pareas run --steps 1000000001", None),
-        ("pareas run --steps -1", None),
-        ("pareas --help", None),
-        ("pareas help run", None),
-        ("pareas --version", None),
+        ("pareas drill --seed 1 --functions 0", ""),
+        ("pareas drill --seed 1 --functions 4097", ""),
+        ("pareas drill --seed 4294967296 --functions 1", ""),
+        ("pareas drill --functions 1", ""),
+        ("pareas drill --seed 1", ""),
+        ("pareas drill --seed 1 --functions 1 --steps 1", ""),
+        ("pareas dump --steps 1", ""),
+        ("pareas dump --chunk 1", ""),
+        ("pareas dump seven.elf", ""),
+        ("pareas asm --steps 1", ""),
+        ("pareas asm --workers 1", ""),
+        ("pareas asm dump", ""),
+        ("pareas table --workers 1", ""),
+        ("pareas table --steps 1", ""),
+        ("pareas table --word", ""),
+        ("pareas table --word a b", ""),
+        ("pareas table --word a --word a", ""),
+        ("pareas table --word -a", ""),
+        ("pareas build --word a", ""),
+        ("pareas asm --word a", ""),
+        ("pareas --word a table", ""),
+        ("pareas", ""),
+        ("pareas bild", ""),
+        ("pareas build run", ""),
+        ("pareas build --workers 0", ""),
+        ("pareas build --workers 65", ""),
+        ("pareas build --chunk 65537", ""),
+        ("pareas build --chunk x", ""),
+        ("pareas build --steps 3", ""),
+        ("pareas emu --workers 1", ""),
+        ("pareas run --steps", ""),
+        ("pareas run --steps 1 --steps 1", ""),
+        ("pareas run --steps 1000000001", ""),
+        ("pareas run --steps -1", ""),
+        ("pareas --help", ""),
+        ("pareas help run", ""),
+        ("pareas --version", ""),
     ];
     for (line, wanted) in rows {
-        assert!(rt; asked(rt.alloc(), line)? == wanted, "{line}");
+        let found = asked(rt.alloc(), line)?;
+        assert!(rt; found.as_str() == wanted, "{line}: {found}");
+    }
+    Ok(())
+}
+
+#[test]
+fn tables_are_asked_for_with_a_word(rt: HostRuntime) -> Result<(), Fail> {
+    let rows: [(&[&str], &str); 6] = [
+        (&["pareas", "table", "--word", "a"], "a"),
+        (&["pareas", "table", "--word", "a b"], "a b"),
+        (&["pareas", "table", "--word=a  b "], "a  b "),
+        (&["pareas", "table", "--word", ""], ""),
+        (&["pareas", "table", "--word="], ""),
+        (&["pareas", "table", "--word=-a"], "-a"),
+    ];
+    for (words, spelling) in rows {
+        let is_asked = is_asked_to_parse(rt.alloc(), words, spelling)?;
+        assert!(rt; is_asked, "{spelling}");
     }
     Ok(())
 }
@@ -156,7 +171,7 @@ Commands:
   emu    Runs an ELF file for RV32IM from standard input on the emulator: prints how it ends
   dump   Lists the code of an ELF file for RV32IM from standard input: prints a line for each word
   asm    Assembles a listing as `dump` prints it: lines on standard input, ELF file for RV32IM on standard output
-  table  Makes the LLP(1,1) tables of a grammar from standard input: prints their sizes, or a conflict
+  table  Makes the LLP tables of a grammar from standard input: prints their sizes and the parse of a word, or a conflict
   drill  Compiles and runs a program made from a seed, as in `pareas drill --seed 1 --functions 2`: prints sizes and how it ends, reads no input
   help   Print this message or the help of the given subcommand(s)
 
@@ -217,12 +232,13 @@ Options:
 ";
 
 const TABLE_HELP: &str = "\
-Makes the LLP(1,1) tables of a grammar from standard input: prints their sizes, or a conflict
+Makes the LLP tables of a grammar from standard input: prints their sizes and the parse of a word, or a conflict
 
-Usage: pareas table
+Usage: pareas table [OPTIONS]
 
 Options:
-  -h, --help  Print help
+      --word <W>  Parse this word: names separated by spaces
+  -h, --help      Print help
 ";
 
 const DRILL_HELP: &str = "\

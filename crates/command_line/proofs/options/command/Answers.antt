@@ -13,14 +13,14 @@ returns c =
     let emu_plain = ap (λ (s : Shape). s.is_plain) c.in_ok-emu.ensures in
     let dump_plain = ap (λ (s : Shape). s.is_plain) c.dump.ensures in
     let asm_plain = ap (λ (s : Shape). s.is_plain) c.asm.ensures in
-    let table_plain = ap (λ (s : Shape). s.is_plain) c.table.ensures in
+    let table_plain = ap (λ (s : Shape). s.is_plain) c.in_ok-table.ensures in
     let drill_plain = ap (λ (s : Shape). s.is_plain) c.in_ok-drill.ensures in
     let one = c.in_ok-subcommand.ensures.shape (is_not _ (and_parts _ _ (and_parts _ _ (and_parts _ _ build_plain).1).1).0) ∙ ap₂ with_subcommand c.bare.ensures c.in_ok-build.ensures in
     let two = c.in_ok-subcommand-2.ensures.shape (is_not _ (and_parts _ _ (and_parts _ _ (and_parts _ _ run_plain).1).1).0) ∙ ap₂ with_subcommand one c.in_ok-run.ensures in
     let three = c.in_ok-subcommand-3.ensures.shape (is_not _ (and_parts _ _ (and_parts _ _ (and_parts _ _ emu_plain).1).1).0) ∙ ap₂ with_subcommand two c.in_ok-emu.ensures in
     let four = c.in_ok-subcommand-4.ensures.shape (is_not _ (and_parts _ _ (and_parts _ _ (and_parts _ _ dump_plain).1).1).0) ∙ ap₂ with_subcommand three c.dump.ensures in
     let five = c.in_ok-subcommand-5.ensures.shape (is_not _ (and_parts _ _ (and_parts _ _ (and_parts _ _ asm_plain).1).1).0) ∙ ap₂ with_subcommand four c.asm.ensures in
-    let six = c.in_ok-subcommand-6.ensures.shape (is_not _ (and_parts _ _ (and_parts _ _ (and_parts _ _ table_plain).1).1).0) ∙ ap₂ with_subcommand five c.table.ensures in
+    let six = c.in_ok-subcommand-6.ensures.shape (is_not _ (and_parts _ _ (and_parts _ _ (and_parts _ _ table_plain).1).1).0) ∙ ap₂ with_subcommand five c.in_ok-table.ensures in
     IfOk-weaker c.subcommand-7.result _ _
     (λ m h. h.shape (is_not _ (and_parts _ _ (and_parts _ _ (and_parts _ _ drill_plain).1).1).0) ∙ ap₂ with_subcommand six c.in_ok-drill.ensures)
     c.subcommand-7.ensures

@@ -4,4 +4,4 @@ use Rattle.command_line.proofs.options.default_option.Goals as goal
 
 pub returns-clause-rule : goal.returns-clause-rule
 returns-clause-rule c =
-    ap rule_of c.default_value.ensures ∙ ap (λ (r : Rule). record r { defaults = c.args.default.now ∷ [] }) c.number_option.ensures.rule
+    ap rule_of c.default_value.ensures ∙ ap (λ (r : Rule). record r { defaults = c.args.default.now ∷ [] }) c.value_option.ensures.rule

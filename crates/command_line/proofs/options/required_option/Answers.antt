@@ -3,4 +3,4 @@ use Rattle.clap.specs.Words.{Rule, rule_of}
 use Rattle.command_line.proofs.options.required_option.Goals as goal
 
 pub returns-clause-rule : goal.returns-clause-rule
-returns-clause-rule c = ap rule_of c.required.ensures ∙ ap (λ (r : Rule). record r { required = true }) c.number_option.ensures.rule
+returns-clause-rule c = ap rule_of c.required.ensures ∙ ap (λ (r : Rule). record r { required = true }) c.value_option.ensures.rule

@@ -29,4 +29,4 @@ returns-clause-asked c =
     let one = met _ words words c.in-Ok.matches app_is refl (c.in-Ok.ensures.kinds (ap is_simple_and_free app_is ∙ app_is_free)) c.in-Ok.ensures.matches in
     let name = sym (mapped_twice _ _ _) ∙ sym c.subcommand.ensures.name ∙ ap (option_map (λ p. p.0.now)) c.unwrap.ensures in
     let rows = sym c.subcommand.ensures.rows ∙ ap (option_map (λ p. rows_of (found_of p.1.now))) c.unwrap.ensures in
-    (got words c.in-Ok.matches c.unwrap.result.0.now (rows_of (found_of c.unwrap.result.1.now)) one name rows).is_asked ∙ ap Some (sym c.request.ensures)
+    (got words c.in-Ok.matches c.unwrap.result.0.now (rows_of (found_of c.unwrap.result.1.now)) one name rows).is_asked ∙ ap Some (sym c.in_ok-request.ensures)

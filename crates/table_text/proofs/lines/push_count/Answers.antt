@@ -1,6 +1,6 @@
 use Rattle.std.proofs.Common.{◌≡◌, ◌∙◌, ◌++◌, codes, ap, ap₂, sym, List, ℕ, [], ◌∷◌, append_assoc}
 use Rattle.std.specs.Prelude.{decimal}
-use Rattle.pareas_core.proofs.counts.push_count.Goals as goal
+use Rattle.table_text.proofs.lines.push_count.Goals as goal
 
 nested : (x a b c d : List ℕ) → x ++ a ++ (b ++ (c ++ d)) ≡ x ++ (a ++ b ++ c ++ d)
 nested x a b c d =

@@ -1,0 +1,3 @@
+pub mod WideAnswers
+pub mod OneAnswer
+pub mod Told
