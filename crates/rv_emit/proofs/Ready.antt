@@ -1,35 +1,24 @@
 -- The columns of an accepted program are what passes ask of them.
-use Rattle.std.proofs.Common.{◌≡◌, ℕ, ◌*◌, ◌<◌, ◌≤◌, All, List, length, Option, sym, subst, ◌∙◌, arith}
-use Rattle.scatter_rows.specs.Scattered.{AreDistinct}
+use Rattle.std.proofs.Common.{◌≡◌, ℕ, ◌*◌, ◌<◌, ◌≤◌, List, map, Option, sym, subst, ◌∙◌, arith}
 use Rattle.source_meaning.specs.declared.kinds.Kind.{Kind}
 use Rattle.source_meaning.specs.Ast.{Program}
+use Rattle.source_meaning.specs.Rows.{post}
+use Rattle.ast_rows.specs.NodeRows.{lows_of, parent_numbers}
 use Rattle.code_rules.specs.Pieces.{places}
 use Rattle.rv_select.specs.declared.columns.Columns.{Columns}
 use Rattle.rv_select.specs.declared.known.Frame.{Frame}
-use Rattle.rv_select.proofs.Kept.{apart, fit}
 use Rattle.rv_select.proofs.InReach.{ready}
 use Rattle.rv_select.specs.Accepted.{IsAccepted, IsReady}
-use Rattle.rv_emit.specs.OfColumns.{words_many_of, kept_places_of, kept_values_of, AreAccepted, AreChildren, AreLaidOf}
-use Rattle.rv_emit.proofs.Placed.{all_by, many}
+use Rattle.rv_emit.specs.OfColumns.{rows_of, child_of, words_many_of, AreAccepted, AreLaidOf}
+use Rattle.rv_emit.proofs.Children.{children_told}
 use Rattle.rv_emit.proofs.Sized.{places_are}
 
 module _ (c : Columns) (meant : List ℕ) (main : ℕ) (p : Program) (good : AreAccepted c meant main p) where
-  pub kept_apart : AreDistinct (kept_places_of c)
-  kept_apart = apart c.kinds.now c.parents.now c.places.now c.depths.now c.functions.now c.numbers.now c.ends.now c.frames.now p good.2.columns
-
-  pub kept_inside : All (λ q. q < length c.kinds.now) (kept_places_of c)
-  kept_inside = all_by (λ q. q < length c.kinds.now) (kept_places_of c) (λ i lt.
-      (fit c.kinds.now c.parents.now c.places.now c.depths.now c.functions.now c.numbers.now c.ends.now c.frames.now p good.2.columns i lt).0)
-
-  pub kept_small : All (λ m. m ≤ 33554432) (kept_values_of c)
-  kept_small = all_by (λ m. m ≤ 33554432) (kept_values_of c) (λ i lt.
-      (fit c.kinds.now c.parents.now c.places.now c.depths.now c.functions.now c.numbers.now c.ends.now c.frames.now p good.2.columns i (omega (arith, many c))).1)
-
   -- the places of the program's pieces are the column of places
-  pub laid_by : (at children : List ℕ) → at ≡ places p → AreChildren c children → AreLaidOf c at children
-  laid_by at children is put = record {
+  pub laid_by : (at lows children : List ℕ) → at ≡ places p → lows ≡ lows_of (parent_numbers 0 (post p)) → children ≡ map (child_of c lows) (rows_of c) → AreLaidOf c at children
+  laid_by at lows children is low put = record {
     at_are = is ∙ sym (places_are c meant main p good);
-    children_are = put;
+    children_are = children_told c p good.2.columns lows low children put;
   }
 
 -- columns that are lent by lists of these values

@@ -1,11 +1,12 @@
 -- The columns of a program's rows, and what is made of them.
-use Rattle.std.specs.Prelude.{◌≡◌, ℕ, ◌-◌, ◌<◌, zero, suc, List, length, map, flat_map, slice_index_or, Option}
+use Rattle.std.specs.Prelude.{◌≡◌, ℕ, ◌+◌, ◌-◌, ◌<◌, zero, suc, min, List, length, map, flat_map, slice_index_or, Option}
 use Rattle.std.specs.List.{range_with_len}
 use Rattle.chunk_seats.specs.Chunks.{chunk_of}
 use Rattle.rv_isa.specs.Encoding.{word}
 use Rattle.rv_isa.specs.declared.instructions.Instr.{Instr}
 use Rattle.source_meaning.specs.Ast.{Program}
 use Rattle.source_meaning.specs.declared.kinds.Kind.{Kind}
+use Rattle.source_meaning.specs.declared.kinds.Kind.TheVariants.{Program as ProgramKind, IfElse, While}
 use Rattle.code_rules.specs.RowPieces.{piece_by, start_size}
 use Rattle.code_rules.specs.RowTables.{head_by}
 use Rattle.rv_select.specs.declared.columns.Columns.{Columns}
@@ -15,6 +16,13 @@ use Rattle.rv_select.specs.Knowns.{known_of, start_of}
 use Rattle.rv_select.specs.Layout as layout
 use Rattle.rv_select.specs.Accepted as accepted
 use Rattle.rv_select.specs.Referred as referred
+
+-- As what a row of this kind keeps a child, from the first row of its own subtree and that of its last child's: an if with an else its
+-- second child, right behind which its last one begins, and a loop the first row of its condition; each as one more than its number.
+abbrev pub child_by : Kind → ℕ → ℕ → ℕ
+child_by IfElse own behind = behind
+child_by While own behind = min (own + 1) 4294967295
+child_by kind own behind = 0
 
 module _ (c : Columns) where
   abbrev pub rows_of : List ℕ
@@ -32,23 +40,15 @@ module _ (c : Columns) where
   abbrev pub words_many_of : ℕ
   words_many_of = layout.words_many c.kinds.now c.parents.now c.places.now c.depths.now c.functions.now c.numbers.now c.ends.now c.frames.now
 
-  abbrev pub above_of : ℕ → Kind
-  above_of k = layout.above c.kinds.now c.parents.now c.places.now c.depths.now c.functions.now c.numbers.now c.ends.now c.frames.now k
-
-  abbrev pub begin_step_of : ℕ → ℕ
-  begin_step_of k = layout.begin_step c.kinds.now c.parents.now c.places.now c.depths.now c.functions.now c.numbers.now c.ends.now c.frames.now k
-
-  abbrev pub begins_of : List ℕ
-  begins_of = layout.begins c.kinds.now c.parents.now c.places.now c.depths.now c.functions.now c.numbers.now c.ends.now c.frames.now
-
-  abbrev pub kept_of : List ℕ
-  kept_of = layout.kept c.kinds.now c.parents.now c.places.now c.depths.now c.functions.now c.numbers.now c.ends.now c.frames.now
-
   abbrev pub kept_places_of : List ℕ
   kept_places_of = layout.kept_places c.kinds.now c.parents.now c.places.now c.depths.now c.functions.now c.numbers.now c.ends.now c.frames.now
 
   abbrev pub kept_values_of : List ℕ
   kept_values_of = layout.kept_values c.kinds.now c.parents.now c.places.now c.depths.now c.functions.now c.numbers.now c.ends.now c.frames.now
+
+  -- what each row keeps, by the first rows of subtrees: the last child of a row stands right before it
+  abbrev pub child_of : List ℕ → ℕ → ℕ
+  child_of lows k = child_by (slice_index_or c.kinds.now k ProgramKind) (slice_index_or lows k 0) (slice_index_or lows (k - 1) 0)
 
   -- the kept children stand at their parents
   abbrev pub AreChildren : List ℕ → Type 0

@@ -8,7 +8,6 @@ ghost use Rattle.code_rules.specs.Pieces.{sizes as sizes_of, places as places_of
 ghost use Rattle.rv_emit.specs.Coded.{AreCodeColumns};
 
 use crate::columns::CodeColumns;
-use crate::laid::wide;
 use crate::unit::row_columns;
 use par_passes::{Lift, Passes};
 use rv_select::{head_size, place};
@@ -35,6 +34,13 @@ fn sums(crew: &impl Passes, sizes: &[u32]) -> Result<Vec<u64>, AllocError>
     crew.scan_lifted(&Count, sizes, &Wide)
 }
 
+// The sum before a row, and 0 behind the last one.
+fn sum_before(sums: &[u64], k: u32) -> u64
+    ensures { result ≡ slice_index_or sums.now k 0 }
+{
+    sums.get(k as usize).copied().unwrap_or(0)
+}
+
 // The place of each row's first word, from the sums of sizes.
 fn row_places(
     crew: &impl Passes,
@@ -49,7 +55,7 @@ fn row_places(
     let at = |k: u32| -> u32
         requires { (head < 2 ^ 62) × ((k : ℕ) → slice_index_or sums.now k 0 < 2 ^ 62) }
         ensures { result ≡ min (head + slice_index_or sums.entry.now k 0) 4294967295 }
-    { place(head, wide(sums, k)) };
+    { place(head, sum_before(sums, k)) };
     crew.tabulate(count, &at)
 }
 

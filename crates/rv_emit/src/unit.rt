@@ -31,16 +31,18 @@ pub fn code_columns<'a>(
     let kinds = rows.kinds();
     let parents = rows.parents();
     let places = rows.places();
+    let lows = rows.lows();
     let owners = functions::numbers(crew, kinds)?;
     let ends = functions::ends(crew, kinds)?;
     let frames = functions::frames(crew, frames)?;
     let words = names.meant();
-    let numbers = meanings::numbers(crew, kinds, words, names.numbers(), rows.lows())?;
+    let numbers = meanings::numbers(crew, kinds, words, names.numbers(), lows)?;
     let meant = meanings::callees(crew, words)?;
     Ok(CodeColumns {
         kinds,
         parents,
         places,
+        lows,
         depths,
         functions: owners,
         numbers,

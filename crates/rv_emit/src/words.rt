@@ -2,6 +2,8 @@
 ghost use Rattle.std.specs.Prelude.{◌≡◌, ℕ, ◌-◌, ◌*◌, ◌<◌, ◌≤◌, length, Err, IfOk, slice_index_or};
 ghost use Rattle.rv_code.specs.Code.{words as words_of};
 ghost use Rattle.source_meaning.specs.Ast.{Program as Source};
+ghost use Rattle.source_meaning.specs.Rows.{post};
+ghost use Rattle.ast_rows.specs.NodeRows.{lows_of, parent_numbers};
 ghost use Rattle.code_rules.specs.Pieces.{places as places_of};
 ghost use Rattle.rv_emit.specs.declared.fault.CodeError.TheVariants.{Large};
 ghost use Rattle.rv_emit.specs.Coded.{AreCodeColumns};
@@ -29,16 +31,17 @@ fn lay(
     crew: &impl Passes,
     columns: &Columns<'_>,
     places: &[u32],
+    lows: &[u32],
     meant: &[u32],
     main: u32,
     words: u64,
 ) -> Result<Vec<u32>, AllocError>
-    requires program { (p : Source) × AreAccepted columns.now meant.now main p × (places.now ≡ places_of p) }
+    requires program { (p : Source) × AreAccepted columns.now meant.now main p × (places.now ≡ places_of p) × (lows.now ≡ lows_of (parent_numbers 0 (post p))) }
     requires words { words ≡ words_many_of columns.now }
     requires few { words ≤ 262144 }
     ensures { IfOk result (λ v. (p : Source) → AreAccepted columns.now meant.now main p → v.items ≡ words_of p) }
 {
-    let children = kept_children(crew, columns)?;
+    let children = kept_children(crew, columns, lows)?;
     let places = Places {
         at: places,
         children: &children,
@@ -66,5 +69,13 @@ pub fn emit(
     if bytes > MOST_CODE {
         return Err(CodeError::Large { bytes });
     }
-    Ok(lay(crew, &columns, places, &code.meant, code.main, words)?)
+    Ok(lay(
+        crew,
+        &columns,
+        places,
+        code.lows,
+        &code.meant,
+        code.main,
+        words,
+    )?)
 }

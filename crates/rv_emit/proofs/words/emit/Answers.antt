@@ -10,7 +10,7 @@ lay-requires-clause-program g c κs within =
     let code = c.args.code.now in
     let columns = c.row_columns-columns.result in
     let p = c.requires.program.0 in
-    (p, subst (λ (m : List ℕ). AreAccepted columns m code.main p) (sym c.deref.ensures.value) (c.row_columns-columns.ensures p c.requires.program.1), c.requires.program.2)
+    (p, subst (λ (m : List ℕ). AreAccepted columns m code.main p) (sym c.deref.ensures.value) (c.row_columns-columns.ensures p c.requires.program.1), c.requires.program.2, c.requires.program.1.3)
 
 pub lay-requires-clause-words : goal.lay-requires-clause-words
 lay-requires-clause-words g c κs within =
