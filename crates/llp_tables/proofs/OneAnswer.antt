@@ -1,7 +1,7 @@
 -- A grammar has one answer: tables, with one number of pairs, or one fault.
-use Rattle.std.proofs.Common.{◌≡◌, ◌≢◌, ◌∙◌, ◌⊎◌, inl, inr, ◌<◌, ◌≤◌, ◌+◌, ◌*◌, ◌/◌, ◌%◌, ℕ, zero, suc, List, [], ◌∷◌, length, Bool, true, false, refl, sym, ap, ap₂, subst, arith, IsTrue}
+use Rattle.std.proofs.Common.{◌≡◌, ◌∙◌, ◌⊎◌, inl, inr, ◌<◌, ◌+◌, ◌*◌, ◌/◌, ◌%◌, ℕ, zero, suc, List, Bool, true, false, refl, sym, ap, subst, arith}
 use Rattle.std.specs.Prelude.{count_by, get_or}
-use Rattle.std.proofs.lemmas.Bool.{cases_order, cases_Bool}
+use Rattle.std.proofs.lemmas.Bool.{cases_order}
 use Rattle.std.proofs.Math.Nat.{div-lt_iff_lt-mul, mod-lt}
 use Rattle.std.proofs.lemmas.Nat.{div-add-mod'}
 use Rattle.std.proofs.lemmas.List.{ext_get_or}
@@ -10,13 +10,14 @@ use Rattle.grammar_file.specs.Grammar.{Grammar, IsWellFormed}
 use Rattle.grammar_file.specs.Spelling.{IsReduced}
 use Rattle.llp_tables.specs.declared.fault.TableFault.{TableFault}
 use Rattle.llp_tables.specs.declared.fault.TableFault.TheVariants.{LeftRecursive, Ll1, Llp, NoMemory}
-use Rattle.llp_tables.specs.Predict.{IsPredicted, IsLl1}
+use Rattle.ll1_sets.specs.Predict.{IsLl1, HasConflict, IsLeastConflict}
 use Rattle.llp_tables.specs.Lookback.{IsLlp}
-use Rattle.llp_tables.specs.Tables.{HasConflict, IsLeastConflict, HasTwoMembers, IsLeastLookbackConflict, IsLeastLeftRecursive, IsTableFault}
+use Rattle.llp_tables.specs.Tables.{HasTwoMembers, IsLeastLookbackConflict, IsTableFault}
 use Rattle.llp_tables.specs.Cells.{IsBefore}
-use Rattle.llp_tables.specs.Pairs.{HasMember, CountsPairs, width}
+use Rattle.llp_tables.specs.Pairs.{CountsPairs}
+use Rattle.ll1_sets.specs.Width.{width_of}
 use Rattle.llp_tables.proofs.StackOrder.{before_cases, before_not_itself, before_trans}
-use Rattle.llp_tables.proofs.LeftRecursion.{not_left_recursive}
+use Rattle.ll1_sets.proofs.LeftRecursion.{not_left_recursive}
 
 -- the least number is one
 one_least : (P : ℕ → Type 0) (a b : ℕ) → P a → P b → ((n : ℕ) → n < a → P n → ⊥) → ((n : ℕ) → n < b → P n → ⊥) → a ≡ b
@@ -156,10 +157,10 @@ remainder i w h = mod-lt i (positive i w h)
 pub one_count : (g : Grammar) (m n : ℕ) → CountsPairs g m → CountsPairs g n → m ≡ n
 one_count g m n j k = j.count ∙ ap (count_by (λ mark. mark)) same ∙ sym k.count
   where
-    at_pair : (a b : ℕ) → a < width g → b < width g → get_or j.marks (b * width g + a) false ≡ get_or k.marks (b * width g + a) false
-    at_pair a b p q = go (get_or j.marks (b * width g + a) false) (get_or k.marks (b * width g + a) false) refl refl
+    at_pair : (a b : ℕ) → a < width_of g → b < width_of g → get_or j.marks (b * width_of g + a) false ≡ get_or k.marks (b * width_of g + a) false
+    at_pair a b p q = go (get_or j.marks (b * width_of g + a) false) (get_or k.marks (b * width_of g + a) false) refl refl
       where
-        go : (x y : Bool) → get_or j.marks (b * width g + a) false ≡ x → get_or k.marks (b * width g + a) false ≡ y → get_or j.marks (b * width g + a) false ≡ get_or k.marks (b * width g + a) false
+        go : (x y : Bool) → get_or j.marks (b * width_of g + a) false ≡ x → get_or k.marks (b * width_of g + a) false ≡ y → get_or j.marks (b * width_of g + a) false ≡ get_or k.marks (b * width_of g + a) false
         go true true e f = e ∙ sym f
         go false false e f = e ∙ sym f
         go true false e f = absurd (k.unmarked a b p q f (j.marked a b p q e))
@@ -167,5 +168,5 @@ one_count g m n j k = j.count ∙ ap (count_by (λ mark. mark)) same ∙ sym k.c
 
     same : j.marks ≡ k.marks
     same = ext_get_or false j.marks k.marks (j.size ∙ sym k.size) (λ i h.
-        let inside : i < width g * width g = subst (λ n. i < n) j.size h in
-        subst (λ i. get_or j.marks i false ≡ get_or k.marks i false) (div-add-mod' i (width g)) (at_pair (i % width g) (i / width g) (remainder i (width g) inside) (quotient i (width g) inside)))
+        let inside : i < width_of g * width_of g = subst (λ n. i < n) j.size h in
+        subst (λ i. get_or j.marks i false ≡ get_or k.marks i false) (div-add-mod' i (width_of g)) (at_pair (i % width_of g) (i / width_of g) (remainder i (width_of g) inside) (quotient i (width_of g) inside)))

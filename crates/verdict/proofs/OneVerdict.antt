@@ -3,8 +3,8 @@ use Rattle.std.proofs.Common.{◌≡◌, ℕ, ◌+◌, ◌<◌, arith, List, dro
 use Rattle.std.proofs.lemmas.List.{take-append-drop}
 use Rattle.grammar_file.specs.Derivation.{IsLeftParse, IsSentence}
 use Rattle.grammar_file.specs.SyntaxPlace.{IsSyntaxPlace, ended}
-use Rattle.llp_tables.specs.Predict.{IsLl1}
-use Rattle.llp_tables.proofs.Ll1.{left_parse_same}
+use Rattle.ll1_sets.specs.Predict.{IsLl1}
+use Rattle.ll1_sets.proofs.Ll1.{left_parse_same}
 use Rattle.source_meaning.specs.Lexemes.{tokens, lexical_fault, place_of}
 use Rattle.source_meaning.specs.Grammar.{grammar, terminal_number, Tree, Prog, leaves, left_parse, ast}
 use Rattle.source_meaning.proofs.Derived.{is_left_parse, numbers}
