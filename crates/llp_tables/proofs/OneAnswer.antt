@@ -10,14 +10,13 @@ use Rattle.grammar_file.specs.Grammar.{Grammar, IsWellFormed}
 use Rattle.grammar_file.specs.Spelling.{IsReduced}
 use Rattle.llp_tables.specs.declared.fault.TableFault.{TableFault}
 use Rattle.llp_tables.specs.declared.fault.TableFault.TheVariants.{LeftRecursive, Ll1, Llp, NoMemory}
-use Rattle.ll1_sets.specs.Predict.{IsLl1, HasConflict, IsLeastConflict}
+use Rattle.ll1_sets.specs.Predict.{IsLl1, IsNotLeftRecursive, HasConflict, IsLeastConflict}
 use Rattle.llp_tables.specs.Lookback.{IsLlp}
 use Rattle.llp_tables.specs.Tables.{HasTwoMembers, IsLeastLookbackConflict, IsTableFault}
 use Rattle.llp_tables.specs.Cells.{IsBefore}
 use Rattle.llp_tables.specs.Pairs.{CountsPairs}
 use Rattle.ll1_sets.specs.Width.{width_of}
 use Rattle.llp_tables.proofs.StackOrder.{before_cases, before_not_itself, before_trans}
-use Rattle.ll1_sets.proofs.LeftRecursion.{not_left_recursive}
 
 -- the least number is one
 one_least : (P : ℕ → Type 0) (a b : ℕ) → P a → P b → ((n : ℕ) → n < a → P n → ⊥) → ((n : ℕ) → n < b → P n → ⊥) → a ≡ b
@@ -135,12 +134,12 @@ module _ (g : Grammar) where
   one_fault (Ll1 a b p1 p2) NoMemory k m = absurd m
   one_fault (Llp a b x y) NoMemory k m = absurd m
 
-  pub fault_or_tables : IsWellFormed g → IsReduced g → (f : TableFault) → IsTableFault g f → IsLl1 g → IsLlp g → ⊥
-  fault_or_tables formed reduced (LeftRecursive a) k ll1 llp = not_left_recursive g ll1 formed reduced a k.0
-  fault_or_tables formed reduced (Ll1 a b p1 p2) k ll1 llp = let e = ll1 a p1 p2 b k.1.first k.1.second in let h = k.1.in_order in omega arith
-  fault_or_tables formed reduced (Llp a b x y) k ll1 llp =
+  pub fault_or_tables : (IsLl1 g → IsWellFormed g → IsReduced g → IsNotLeftRecursive g) → IsWellFormed g → IsReduced g → (f : TableFault) → IsTableFault g f → IsLl1 g → IsLlp g → ⊥
+  fault_or_tables left formed reduced (LeftRecursive a) k ll1 llp = left ll1 formed reduced a k.0
+  fault_or_tables left formed reduced (Ll1 a b p1 p2) k ll1 llp = let e = ll1 a p1 p2 b k.1.first k.1.second in let h = k.1.in_order in omega arith
+  fault_or_tables left formed reduced (Llp a b x y) k ll1 llp =
       before_not_itself y (subst (λ w. IsBefore w y) (llp a b x y k.2.first_member k.2.second_member) k.2.in_order)
-  fault_or_tables formed reduced NoMemory k ll1 llp = k
+  fault_or_tables left formed reduced NoMemory k ll1 llp = k
 
 -- ---- one number of pairs
 
