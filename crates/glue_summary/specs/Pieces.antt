@@ -4,8 +4,9 @@ use Rattle.grammar_file.specs.declared.symbols.Symbol.{Symbol}
 use Rattle.grammar_file.specs.Grammar.{Grammar, begin_mark, whole}
 use Rattle.grammar_file.specs.Derivation.{FirstReaches}
 use Rattle.llp_tables.specs.EntryTable.{EntryTable, entry_of}
-use Rattle.llp_tables.specs.Lookback.{BeginsAtLast, IsPiece}
-use Rattle.llp_tables.specs.Predict.{IsLl1}
+use Rattle.ll1_sets.specs.Behind.{BeginsAtLast}
+use Rattle.llp_tables.specs.Lookback.{IsPiece}
+use Rattle.ll1_sets.specs.Predict.{IsLl1}
 use Rattle.llp_tables.specs.Tables.{Entry}
 use Rattle.glue_summary.specs.declared.behind.Behind.{Behind}
 

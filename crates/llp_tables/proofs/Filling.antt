@@ -6,7 +6,7 @@ use Rattle.llp_tables.specs.Tables.{stack_lt}
 use Rattle.llp_tables.specs.Cells.{IsBefore, IsCovered}
 use Rattle.llp_tables.specs.Slots.{Slots, Empty, One, Two, Holds, AreInOrder, is_level, covers, add, room}
 use Rattle.llp_tables.specs.LeastMembers.{KeepsLeast}
-use Rattle.llp_tables.proofs.FormTests.{both, either, or_left}
+use Rattle.ll1_sets.proofs.FormTests.{both, either, or_left}
 use Rattle.llp_tables.proofs.StackOrder.{before_cases, before_not_itself, before_trans}
 use Rattle.llp_tables.proofs.TwoLeast.{only_one, none_at_all, two_least}
 

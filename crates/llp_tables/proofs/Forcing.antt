@@ -8,15 +8,14 @@ use Rattle.grammar_file.specs.declared.symbols.Symbol.{Symbol}
 use Rattle.grammar_file.specs.declared.symbols.Symbol.TheVariants.{Terminal, Nonterminal}
 use Rattle.grammar_file.specs.Grammar.{Grammar, Production, production, begin_mark, end_mark, whole}
 use Rattle.grammar_file.specs.Marks.{AreMarksOf}
-use Rattle.llp_tables.specs.Predict.{IsFirst}
-use Rattle.llp_tables.specs.Marking.{vanishes, all_vanish, starts}
-use Rattle.llp_tables.specs.Lookback.{BeginsAtLast}
-use Rattle.llp_tables.specs.Behind.{Behind, here, through, of_start, of_begin}
+use Rattle.ll1_sets.specs.Predict.{IsFirst}
+use Rattle.ll1_sets.specs.Marking.{vanishes, all_vanish, starts}
+use Rattle.ll1_sets.specs.Behind.{BeginsAtLast, Behind, here, through, of_start, of_begin}
 use Rattle.llp_tables.specs.Cells.{IsCovered, IsClosedAt}
 use Rattle.llp_tables.specs.Slots.{Slots, Empty, One, Holds, AreInOrder, covers}
 use Rattle.llp_tables.specs.Forced.{is_stop, IsStop, IsPass, IsForced, IsForcedBy, IsForcedByRules, IsForcedIn, IsPassedIn, Forces}
-use Rattle.llp_tables.proofs.FormTests.{both, and, either, or_left, Nullable, First, vanishing, beginning, vanishes_exactly, begins_exactly}
-use Rattle.llp_tables.proofs.FollowMarks.{parts_of, symbol_at, rest_at}
+use Rattle.ll1_sets.proofs.FormTests.{both, and, either, or_left, Nullable, First, vanishing, beginning, vanishes_exactly, begins_exactly}
+use Rattle.ll1_sets.proofs.FollowMarks.{parts_of, symbol_at, rest_at}
 use Rattle.llp_tables.proofs.Filling.{covers_is}
 
 module _ (g : Grammar) (nullable first : List Bool) (b : ℕ) (nulls : AreMarksOf g (Nullable g) nullable) (firsts : AreMarksOf g (First g b) first) where

@@ -1,5 +1,5 @@
 -- What the cells of all terminals tell of PSLS.
-use Rattle.std.proofs.Common.{◌≡◌, ℕ, ◌+◌, ◌<◌, ◌≤◌, ◌⊎◌, inl, inr, List, length, refl, sym, ap, ◌∙◌, subst, arith}
+use Rattle.std.proofs.Common.{◌≡◌, ℕ, ◌<◌, ◌≤◌, ◌⊎◌, inl, inr, List, sym, ap, ◌∙◌, subst, arith}
 use Rattle.std.proofs.lemmas.Bool.{cases_lt}
 use Rattle.std.proofs.lemmas.Option.{slice_get_past}
 use Rattle.grammar_file.specs.declared.symbols.Symbol.{Symbol}
@@ -7,13 +7,14 @@ use Rattle.grammar_file.specs.declared.symbols.Symbol.TheVariants.{Terminal}
 use Rattle.grammar_file.specs.Grammar.{Grammar, IsWellFormed}
 use Rattle.grammar_file.specs.Spelling.{IsReduced}
 use Rattle.llp_tables.specs.Lookback.{IsLookback, IsLlp}
-use Rattle.llp_tables.specs.Behind.{Behind}
+use Rattle.ll1_sets.specs.Behind.{Behind}
 use Rattle.llp_tables.specs.Slots.{Slots, Empty, One, Two}
 use Rattle.llp_tables.specs.LeastMembers.{KeepsLeast}
 use Rattle.llp_tables.specs.Lookbacks.{cells_in, cells_at, AreLookbacks, HasNoTwo, TellsLookback, TellLookbacks, IsLeastTwoBehind}
 use Rattle.llp_tables.specs.Tables.{HasTwoMembers, IsLeastLookbackConflict}
 use Rattle.llp_tables.specs.declared.cells.Members.{Members}
-use Rattle.llp_tables.proofs.LookbackBounds.{next_within, last_within}
+use Rattle.llp_tables.proofs.LookbackBounds.{lookback_in_range}
+use Rattle.ll1_sets.specs.Width.{width_of}
 use Rattle.llp_tables.proofs.Rules.{by_rules, by_derivations}
 
 -- ---- cells of members
@@ -38,29 +39,29 @@ module _ (g : Grammar) (all : List Members) (h : AreLookbacks g all) (well : IsW
   abbrev pub cell : ℕ → ℕ → Slots
   cell a b = cells_at all b (Terminal a)
 
-  beyond : (a b : ℕ) → length g.terminals + 2 ≤ b → cell a b ≡ Empty
+  beyond : (a b : ℕ) → width_of g ≤ b → cell a b ≡ Empty
   beyond a b l = ap (λ o. cells_in o (Terminal a)) (slice_get_past all b (let e = h.count in omega arith))
 
   told : (a b : ℕ) → KeepsLeast (IsLookback g a b) (cell a b)
-  told a b = go (cases_lt b (length g.terminals + 2))
+  told a b = go (cases_lt b (width_of g))
     where
-      go : (b < length g.terminals + 2) ⊎ (length g.terminals + 2 ≤ b) → KeepsLeast (IsLookback g a b) (cell a b)
+      go : (b < width_of g) ⊎ (width_of g ≤ b) → KeepsLeast (IsLookback g a b) (cell a b)
       go (inl l) = keeps_as (Behind g (Terminal a) b) (IsLookback g a b) (cell a b) (λ w m. by_derivations g well reduced a b w m) (λ w m. by_rules g a b w m) (h.least b l (Terminal a))
-      go (inr l) = subst (KeepsLeast (IsLookback g a b)) (sym (beyond a b l)) (λ w m. let k = next_within g well (Terminal a) b w (by_rules g a b w m) in absurd (omega arith))
+      go (inr l) = subst (KeepsLeast (IsLookback g a b)) (sym (beyond a b l)) (λ w m. let k = (lookback_in_range g well a b w m).1 in absurd (omega arith))
 
   -- a terminal that the grammar hasn't has no members
-  no_two_past : (a b : ℕ) → length g.terminals + 2 ≤ a → HasNoTwo (cell a b)
+  no_two_past : (a b : ℕ) → width_of g ≤ a → HasNoTwo (cell a b)
   no_two_past a b l = go (cell a b) (told a b)
     where
       go : (c : Slots) → KeepsLeast (IsLookback g a b) c → HasNoTwo c
       go Empty k = tt
       go (One x) k = tt
-      go (Two x y) k = let i = last_within g well (Terminal a) b x (by_rules g a b x k.0) a refl in absurd (omega arith)
+      go (Two x y) k = let i = (lookback_in_range g well a b x k.0).0 in absurd (omega arith)
 
-  no_two_behind : (a : ℕ) → ((b : ℕ) → b < length g.terminals + 2 → HasNoTwo (cell a b)) → (b : ℕ) → HasNoTwo (cell a b)
-  no_two_behind a none b = go (cases_lt b (length g.terminals + 2))
+  no_two_behind : (a : ℕ) → ((b : ℕ) → b < width_of g → HasNoTwo (cell a b)) → (b : ℕ) → HasNoTwo (cell a b)
+  no_two_behind a none b = go (cases_lt b (width_of g))
     where
-      go : (b < length g.terminals + 2) ⊎ (length g.terminals + 2 ≤ b) → HasNoTwo (cell a b)
+      go : (b < width_of g) ⊎ (width_of g ≤ b) → HasNoTwo (cell a b)
       go (inl l) = none b l
       go (inr l) = subst HasNoTwo (sym (beyond a b l)) tt
 
@@ -69,7 +70,7 @@ module _ (g : Grammar) (all : List Members) (h : AreLookbacks g all) (well : IsW
 
   -- ---- after all pairs, or at the first with two
 
-  pub no_conflict : (n : ℕ) → length g.terminals + 2 ≤ n → ((a b : ℕ) → a < n → b < length g.terminals + 2 → HasNoTwo (cell a b)) → IsLlp g × TellLookbacks g all
+  pub no_conflict : (n : ℕ) → width_of g ≤ n → ((a b : ℕ) → a < n → b < width_of g → HasNoTwo (cell a b)) → IsLlp g × TellLookbacks g all
   no_conflict n l none = (λ a b beta gamma m k. same_member (IsLookback g a b) (cell a b) beta gamma (each a b) (told a b) m k, λ a b. tells g a b (cell a b) (each a b) (told a b))
     where
       each : (a b : ℕ) → HasNoTwo (cell a b)
@@ -79,7 +80,7 @@ module _ (g : Grammar) (all : List Members) (h : AreLookbacks g all) (well : IsW
           go (inl k) = no_two_behind a (λ c i. none a c k i) b
           go (inr k) = no_two_past a b (omega arith)
 
-  pub least_conflict : (a b : ℕ) (first second : List Symbol) → ((d c : ℕ) → d < a → c < length g.terminals + 2 → HasNoTwo (cell d c)) → IsLeastTwoBehind all a b first second → IsLeastLookbackConflict g a b first second
+  pub least_conflict : (a b : ℕ) (first second : List Symbol) → ((d c : ℕ) → d < a → c < width_of g → HasNoTwo (cell d c)) → IsLeastTwoBehind all a b first second → IsLeastLookbackConflict g a b first second
   least_conflict a b first second before k =
       record {
         first_member = kept.0;

@@ -1,7 +1,7 @@
 -- A grammar has one answer: tables, with one number of pairs, or one fault.
-use Rattle.std.proofs.Common.{◌≡◌, ◌≢◌, ◌∙◌, ◌⊎◌, inl, inr, ◌<◌, ◌≤◌, ◌+◌, ◌*◌, ◌/◌, ◌%◌, ℕ, zero, suc, List, [], ◌∷◌, length, Bool, true, false, refl, sym, ap, ap₂, subst, arith, IsTrue}
+use Rattle.std.proofs.Common.{◌≡◌, ◌∙◌, ◌⊎◌, inl, inr, ◌<◌, ◌+◌, ◌*◌, ◌/◌, ◌%◌, ℕ, zero, suc, List, Bool, true, false, refl, sym, ap, subst, arith}
 use Rattle.std.specs.Prelude.{count_by, get_or}
-use Rattle.std.proofs.lemmas.Bool.{cases_order, cases_Bool}
+use Rattle.std.proofs.lemmas.Bool.{cases_order}
 use Rattle.std.proofs.Math.Nat.{div-lt_iff_lt-mul, mod-lt}
 use Rattle.std.proofs.lemmas.Nat.{div-add-mod'}
 use Rattle.std.proofs.lemmas.List.{ext_get_or}
@@ -10,13 +10,13 @@ use Rattle.grammar_file.specs.Grammar.{Grammar, IsWellFormed}
 use Rattle.grammar_file.specs.Spelling.{IsReduced}
 use Rattle.llp_tables.specs.declared.fault.TableFault.{TableFault}
 use Rattle.llp_tables.specs.declared.fault.TableFault.TheVariants.{LeftRecursive, Ll1, Llp, NoMemory}
-use Rattle.llp_tables.specs.Predict.{IsPredicted, IsLl1}
+use Rattle.ll1_sets.specs.Predict.{IsLl1, IsNotLeftRecursive, HasConflict, IsLeastConflict}
 use Rattle.llp_tables.specs.Lookback.{IsLlp}
-use Rattle.llp_tables.specs.Tables.{HasConflict, IsLeastConflict, HasTwoMembers, IsLeastLookbackConflict, IsLeastLeftRecursive, IsTableFault}
+use Rattle.llp_tables.specs.Tables.{HasTwoMembers, IsLeastLookbackConflict, IsTableFault}
 use Rattle.llp_tables.specs.Cells.{IsBefore}
-use Rattle.llp_tables.specs.Pairs.{HasMember, CountsPairs, width}
+use Rattle.llp_tables.specs.Pairs.{CountsPairs}
+use Rattle.ll1_sets.specs.Width.{width_of}
 use Rattle.llp_tables.proofs.StackOrder.{before_cases, before_not_itself, before_trans}
-use Rattle.llp_tables.proofs.LeftRecursion.{not_left_recursive}
 
 -- the least number is one
 one_least : (P : ℕ → Type 0) (a b : ℕ) → P a → P b → ((n : ℕ) → n < a → P n → ⊥) → ((n : ℕ) → n < b → P n → ⊥) → a ≡ b
@@ -134,12 +134,12 @@ module _ (g : Grammar) where
   one_fault (Ll1 a b p1 p2) NoMemory k m = absurd m
   one_fault (Llp a b x y) NoMemory k m = absurd m
 
-  pub fault_or_tables : IsWellFormed g → IsReduced g → (f : TableFault) → IsTableFault g f → IsLl1 g → IsLlp g → ⊥
-  fault_or_tables formed reduced (LeftRecursive a) k ll1 llp = not_left_recursive g ll1 formed reduced a k.0
-  fault_or_tables formed reduced (Ll1 a b p1 p2) k ll1 llp = let e = ll1 a p1 p2 b k.1.first k.1.second in let h = k.1.in_order in omega arith
-  fault_or_tables formed reduced (Llp a b x y) k ll1 llp =
+  pub fault_or_tables : (IsLl1 g → IsWellFormed g → IsReduced g → IsNotLeftRecursive g) → IsWellFormed g → IsReduced g → (f : TableFault) → IsTableFault g f → IsLl1 g → IsLlp g → ⊥
+  fault_or_tables left formed reduced (LeftRecursive a) k ll1 llp = left ll1 formed reduced a k.0
+  fault_or_tables left formed reduced (Ll1 a b p1 p2) k ll1 llp = let e = ll1 a p1 p2 b k.1.first k.1.second in let h = k.1.in_order in omega arith
+  fault_or_tables left formed reduced (Llp a b x y) k ll1 llp =
       before_not_itself y (subst (λ w. IsBefore w y) (llp a b x y k.2.first_member k.2.second_member) k.2.in_order)
-  fault_or_tables formed reduced NoMemory k ll1 llp = k
+  fault_or_tables left formed reduced NoMemory k ll1 llp = k
 
 -- ---- one number of pairs
 
@@ -156,10 +156,10 @@ remainder i w h = mod-lt i (positive i w h)
 pub one_count : (g : Grammar) (m n : ℕ) → CountsPairs g m → CountsPairs g n → m ≡ n
 one_count g m n j k = j.count ∙ ap (count_by (λ mark. mark)) same ∙ sym k.count
   where
-    at_pair : (a b : ℕ) → a < width g → b < width g → get_or j.marks (b * width g + a) false ≡ get_or k.marks (b * width g + a) false
-    at_pair a b p q = go (get_or j.marks (b * width g + a) false) (get_or k.marks (b * width g + a) false) refl refl
+    at_pair : (a b : ℕ) → a < width_of g → b < width_of g → get_or j.marks (b * width_of g + a) false ≡ get_or k.marks (b * width_of g + a) false
+    at_pair a b p q = go (get_or j.marks (b * width_of g + a) false) (get_or k.marks (b * width_of g + a) false) refl refl
       where
-        go : (x y : Bool) → get_or j.marks (b * width g + a) false ≡ x → get_or k.marks (b * width g + a) false ≡ y → get_or j.marks (b * width g + a) false ≡ get_or k.marks (b * width g + a) false
+        go : (x y : Bool) → get_or j.marks (b * width_of g + a) false ≡ x → get_or k.marks (b * width_of g + a) false ≡ y → get_or j.marks (b * width_of g + a) false ≡ get_or k.marks (b * width_of g + a) false
         go true true e f = e ∙ sym f
         go false false e f = e ∙ sym f
         go true false e f = absurd (k.unmarked a b p q f (j.marked a b p q e))
@@ -167,5 +167,5 @@ one_count g m n j k = j.count ∙ ap (count_by (λ mark. mark)) same ∙ sym k.c
 
     same : j.marks ≡ k.marks
     same = ext_get_or false j.marks k.marks (j.size ∙ sym k.size) (λ i h.
-        let inside : i < width g * width g = subst (λ n. i < n) j.size h in
-        subst (λ i. get_or j.marks i false ≡ get_or k.marks i false) (div-add-mod' i (width g)) (at_pair (i % width g) (i / width g) (remainder i (width g) inside) (quotient i (width g) inside)))
+        let inside : i < width_of g * width_of g = subst (λ n. i < n) j.size h in
+        subst (λ i. get_or j.marks i false ≡ get_or k.marks i false) (div-add-mod' i (width_of g)) (at_pair (i % width_of g) (i / width_of g) (remainder i (width_of g) inside) (quotient i (width_of g) inside)))

@@ -6,7 +6,7 @@ use Rattle.grammar_file.specs.declared.symbols.Symbol.{Symbol}
 use Rattle.grammar_file.specs.declared.symbols.Symbol.TheVariants.{Terminal, Nonterminal}
 use Rattle.grammar_file.specs.Grammar.{Grammar, Production, whole}
 use Rattle.grammar_file.proofs.Words.{same_nonterminal}
-use Rattle.llp_tables.specs.Marking.{all_vanish}
+use Rattle.ll1_sets.specs.Marking.{all_vanish}
 use Rattle.llp_tables.specs.Slots.{Empty, One}
 use Rattle.llp_tables.specs.Forced.{is_stop, IsStop, IsPass, IsForced, IsForcedBy, IsForcedByRules, IsForcedIn, Forces, Passes, no_strings}
 use Rattle.llp_tables.specs.Waiting.{Adds}

@@ -7,11 +7,11 @@ use Rattle.grammar_file.specs.Drive.{Reads, Rule}
 use Rattle.grammar_file.proofs.Words.{same_head, same_tail, same_terminal, same_nonterminal, terminal-nonterminal}
 use Rattle.grammar_file.proofs.Derives.{same_rule}
 use Rattle.grammar_file.proofs.Drives.{no_reads, reads_above, reads_first, first_of_drives}
-use Rattle.llp_tables.specs.Predict.{IsPredicted, IsLl1}
+use Rattle.ll1_sets.specs.Predict.{IsPredicted, IsLl1, ArePredictions}
 use Rattle.llp_tables.specs.Lookback.{IsLookback, IsPiece}
-use Rattle.llp_tables.specs.Pieces.{ArePredictions, IsReadable, IsTaken, AddsReading, AddsPiece}
-use Rattle.llp_tables.proofs.FollowSets.{begins_first}
-use Rattle.llp_tables.proofs.Ll1.{IsReached, reached_step, predicts}
+use Rattle.llp_tables.specs.Pieces.{IsReadable, IsTaken, AddsReading, AddsPiece}
+use Rattle.ll1_sets.proofs.FollowSets.{begins_first}
+use Rattle.ll1_sets.proofs.Ll1.{IsReached, reached_step, predicts}
 
 module _ (g : Grammar) (b : ℕ) where
   -- the production by which a nonterminal on top is read

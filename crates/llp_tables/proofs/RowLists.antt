@@ -9,23 +9,24 @@ use Rattle.grammar_file.specs.declared.symbols.Symbol.{Symbol}
 use Rattle.grammar_file.specs.declared.symbols.Symbol.TheVariants.{Terminal}
 use Rattle.grammar_file.specs.Grammar.{Grammar, IsWellFormed}
 use Rattle.grammar_file.specs.Spelling.{IsReduced}
-use Rattle.llp_tables.specs.Predict.{IsLl1}
+use Rattle.ll1_sets.specs.Predict.{IsLl1}
 use Rattle.llp_tables.specs.Lookback.{IsLookback, IsLlp, IsPiece}
 use Rattle.llp_tables.specs.Tables.{Entry, IsEntry, HasEntry}
 use Rattle.llp_tables.specs.Cells.{IsBefore}
 use Rattle.llp_tables.specs.Slots.{Slots, Empty, One, Two}
 use Rattle.llp_tables.specs.LeastMembers.{KeepsLeast, AreLeastMembers}
-use Rattle.llp_tables.specs.Behind.{Behind}
+use Rattle.ll1_sets.specs.Behind.{Behind}
 use Rattle.llp_tables.specs.CellSlots.{cell_of}
 use Rattle.llp_tables.specs.Lookbacks.{AreLookbacks, cells_in}
 use Rattle.llp_tables.specs.declared.cells.Members.{Members}
 use Rattle.llp_tables.specs.EntryTable.{EntryTable, entry_of, AreTablesOf}
-use Rattle.llp_tables.specs.PieceRows.{entry_in, IsWithin, IsMade, TellsPair, width_of, AreRows}
+use Rattle.llp_tables.specs.PieceRows.{entry_in, IsWithin, IsMade, TellsPair, AreRows}
+use Rattle.ll1_sets.specs.Width.{width_of}
 use Rattle.llp_tables.specs.declared.rows.Piece.{Piece}
-use Rattle.llp_tables.proofs.FormTests.{both, and}
+use Rattle.ll1_sets.proofs.FormTests.{both, and}
 use Rattle.llp_tables.proofs.StackOrder.{before_not_itself}
 use Rattle.llp_tables.proofs.Rules.{by_rules, by_derivations}
-use Rattle.llp_tables.proofs.Ranges.{lookback_in_range}
+use Rattle.llp_tables.proofs.LookbackBounds.{lookback_in_range}
 
 -- ---- productions that come behind
 

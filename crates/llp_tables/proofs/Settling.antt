@@ -5,7 +5,8 @@ use Rattle.grammar_file.specs.declared.symbols.Symbol.{Symbol}
 use Rattle.grammar_file.specs.declared.symbols.Symbol.TheVariants.{Terminal, Nonterminal}
 use Rattle.grammar_file.specs.Grammar.{Grammar, IsWellFormed}
 use Rattle.grammar_file.specs.Marks.{AreMarksOf}
-use Rattle.llp_tables.specs.Behind.{Behind}
+use Rattle.ll1_sets.specs.Width.{width_of}
+use Rattle.ll1_sets.specs.Behind.{Behind}
 use Rattle.llp_tables.specs.Cells.{IsBefore, IsClosedAt}
 use Rattle.llp_tables.specs.Slots.{Slots, Empty, One, Holds, AreInOrder, covers, add, room}
 use Rattle.llp_tables.specs.CellSlots.{cell_of, HasCell, room_of}
@@ -14,13 +15,13 @@ use Rattle.llp_tables.specs.Waiting.{IsWaiting, Adds, AreCovered, IsLeastWaiting
 use Rattle.llp_tables.specs.LeastMembers.{AreLeastMembers}
 use Rattle.llp_tables.specs.declared.cells.Members.{Members}
 use Rattle.llp_tables.specs.declared.pending.Pending.{Pending}
-use Rattle.llp_tables.proofs.FormTests.{Nullable, First}
+use Rattle.ll1_sets.proofs.FormTests.{Nullable, First}
 use Rattle.llp_tables.proofs.CellLists.{symbol_cases}
 use Rattle.llp_tables.proofs.StackOrder.{before_not_itself, not_before_front}
 use Rattle.llp_tables.proofs.TwoLeast.{behind_covered}
 use Rattle.llp_tables.proofs.Filling.{covers_more, add_holds, add_ordered, add_room, up_to, keeps_least}
 use Rattle.llp_tables.proofs.Forcing.{forced_behind, passed_behind, closed_at}
-use Rattle.llp_tables.proofs.LookbackBounds.{last_within, nonterminal_within}
+use Rattle.ll1_sets.proofs.BehindBounds.{last_within, nonterminal_within}
 
 module _ (g : Grammar) (nullable first : List Bool) (b : ℕ) where
   -- What waits is a member, and covered or no less than `last`. No string that is in a cell is greater than that, and all that is forced waits.
@@ -156,7 +157,7 @@ module _ (g : Grammar) (nullable first : List Bool) (b : ℕ) where
 
 -- ---- a symbol that has a member has a cell
 
-pub member_has_cell : (g : Grammar) (b : ℕ) (m : Members) → IsWellFormed g → length m.terminals.items ≡ length g.terminals + 2 → length m.nonterminals.items ≡ length g.nonterminals → (s : Symbol) (w : List Symbol) → Behind g s b w → HasCell m s
+pub member_has_cell : (g : Grammar) (b : ℕ) (m : Members) → IsWellFormed g → length m.terminals.items ≡ width_of g → length m.nonterminals.items ≡ length g.nonterminals → (s : Symbol) (w : List Symbol) → Behind g s b w → HasCell m s
 member_has_cell g b m well t n (Terminal a) w h = let l = last_within g well (Terminal a) b w h a refl in omega arith
 member_has_cell g b m well t n (Nonterminal a) w h = let l = nonterminal_within g well (Nonterminal a) b w h a refl in omega arith
 

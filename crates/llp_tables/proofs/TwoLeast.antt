@@ -3,8 +3,7 @@ use Rattle.std.proofs.Common.{◌≡◌, ℕ, ◌⊎◌, inl, inr, List, ◌++�
 use Rattle.grammar_file.specs.declared.symbols.Symbol.{Symbol}
 use Rattle.grammar_file.specs.declared.symbols.Symbol.TheVariants.{Nonterminal}
 use Rattle.grammar_file.specs.Grammar.{Grammar}
-use Rattle.llp_tables.specs.Lookback.{BeginsAtLast}
-use Rattle.llp_tables.specs.Behind.{Behind, here, through, of_start, of_begin}
+use Rattle.ll1_sets.specs.Behind.{BeginsAtLast, Behind, here, through, of_start, of_begin}
 use Rattle.llp_tables.specs.Cells.{IsBefore, IsCovered, IsClosed, IsClosedAt}
 use Rattle.llp_tables.proofs.StackOrder.{before_not_itself, before_trans, before_behind}
 

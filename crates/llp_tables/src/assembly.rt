@@ -5,19 +5,19 @@ ghost use Rattle.grammar_file.specs.declared.symbols.Symbol.TheVariants.{Nonterm
 ghost use Rattle.grammar_file.specs.Grammar.{IsWellFormed};
 ghost use Rattle.grammar_file.specs.Marks.{AreMarksOf};
 ghost use Rattle.grammar_file.specs.Spelling.{IsReduced};
-ghost use Rattle.llp_tables.specs.Predict.{IsNullable, IsLl1};
+ghost use Rattle.ll1_sets.specs.Predict.{IsNullable, IsLl1};
 ghost use Rattle.llp_tables.specs.Lookback.{IsLlp};
 ghost use Rattle.llp_tables.specs.Lookbacks.{AreLookbacks};
 ghost use Rattle.llp_tables.specs.EntryTable.{AreTablesOf};
-ghost use Rattle.llp_tables.specs.PieceRows.{AreRows, width_of};
+ghost use Rattle.llp_tables.specs.PieceRows.{AreRows};
+ghost use Rattle.ll1_sets.specs.Width.{width_of};
 
 use crate::cells::Members;
 use crate::entry_table::Tables;
 use crate::lengths::{empty_lengths, piece_length};
-use crate::predicted::predictions;
-use crate::rows::{PieceRows, add_row, only_member, width_of};
-use crate::sets::first;
+use crate::rows::{PieceRows, add_row, only_member};
 use grammar_file::Grammar;
+use ll1_sets::{first, predictions, width_of};
 use std::alloc::{AllocError, Global};
 
 /// How many productions the pieces take in which b comes next, by the sets of b.

@@ -1,8 +1,7 @@
 // How many productions pieces take. No clause rests on these counts: they are the capacity that is reserved for all pieces.
 
-use crate::predicted::prediction_of;
-use crate::sets::mark_of;
 use grammar_file::{Grammar, Production, Symbol};
+use ll1_sets::{mark_of, prediction_of};
 use std::alloc::{AllocError, Global};
 
 /// What stands in front of the symbol of a form with which b begins: how many productions it takes to derive nothing

@@ -5,8 +5,8 @@ use crate::entry_table::Tables;
 use crate::fault::TableFault;
 use crate::lengths::empty_lengths;
 use crate::lookbacks::lookbacks;
-use crate::sets::nullable;
 use grammar_file::{G1, Grammar, GrammarFault, Symbol};
+use ll1_sets::nullable;
 use std::alloc::{AllocError, Global};
 use std::test::Fail;
 

@@ -4,8 +4,8 @@ use crate::cells::Cell;
 use crate::entry_table::Tables;
 use crate::fault::TableFault;
 use crate::lookbacks::lookbacks;
-use crate::sets::nullable;
 use grammar_file::{G1, Grammar, GrammarFault};
+use ll1_sets::nullable;
 use std::alloc::{AllocError, Global};
 use std::test::Fail;
 

@@ -6,7 +6,7 @@ use Rattle.grammar_file.specs.declared.symbols.Symbol.{Symbol}
 use Rattle.grammar_file.specs.declared.symbols.Symbol.TheVariants.{Nonterminal}
 use Rattle.llp_tables.specs.Cells.{IsBefore}
 use Rattle.llp_tables.specs.Forced.{is_stop}
-use Rattle.llp_tables.specs.Marking.{all_vanish}
+use Rattle.ll1_sets.specs.Marking.{all_vanish}
 use Rattle.llp_tables.specs.Slots.{Slots, covers}
 use Rattle.llp_tables.specs.Tables.{stack_lt}
 use Rattle.llp_tables.proofs.StackOrder.{before_not_itself, before_trans}

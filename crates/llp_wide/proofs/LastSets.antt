@@ -13,9 +13,9 @@ use Rattle.grammar_file.proofs.Derives.{derives_step, derives_both, derives_term
 use Rattle.grammar_file.proofs.Forms.{Ours, word_of}
 use Rattle.grammar_file.proofs.Marks.{IsTurn}
 use Rattle.grammar_file.proofs.Words.{same_head, same_tail, same_terminal, nil-cons, nonterminal-word}
-use Rattle.llp_tables.specs.Predict.{IsNullable}
-use Rattle.llp_tables.specs.Marking.{vanishes, all_vanish, starts, IsNextBy, IsClosedBy}
-use Rattle.llp_tables.proofs.FormTests.{both, and, either, or_left, or_right, marking_turn, rule_of, Nullable, vanishing, vanishes_exactly, closed_by}
+use Rattle.ll1_sets.specs.Predict.{IsNullable}
+use Rattle.ll1_sets.specs.Marking.{vanishes, all_vanish, starts, IsNextBy, IsClosedBy}
+use Rattle.ll1_sets.proofs.FormTests.{both, and, either, or_left, or_right, marking_turn, rule_of, Nullable, vanishing, vanishes_exactly, closed_by}
 use Rattle.llp_wide.specs.WideBehind.{last_behind, IsEnding}
 use Rattle.llp_wide.specs.Endings.{IsLast, finishes, is_ending}
 

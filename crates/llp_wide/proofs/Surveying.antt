@@ -11,8 +11,8 @@ use Rattle.grammar_file.specs.Drive.{Rule, first_stack}
 use Rattle.grammar_file.specs.Marks.{AreMarksOf}
 use Rattle.grammar_file.specs.Spelling.{IsReduced}
 use Rattle.grammar_file.proofs.Words.{same_head, same_tail, same_nonterminal, terminal-nonterminal, nil-cons}
-use Rattle.llp_tables.proofs.FollowMarks.{parts_of, symbol_at, rest_at}
-use Rattle.llp_tables.proofs.FormTests.{Nullable}
+use Rattle.ll1_sets.proofs.FollowMarks.{parts_of, symbol_at, rest_at}
+use Rattle.ll1_sets.proofs.FormTests.{Nullable}
 use Rattle.llp_wide.specs.declared.endings.LastMarks.{LastMarks}
 use Rattle.llp_wide.specs.declared.places.Entrance.{Entrance}
 use Rattle.llp_wide.specs.Added.{IsIn, Adds}

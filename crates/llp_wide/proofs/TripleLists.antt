@@ -16,15 +16,14 @@ use Rattle.llp_tables.specs.EntryTable.{EntryTable, AreTablesOf}
 use Rattle.llp_tables.specs.LeastMembers.{KeepsLeast}
 use Rattle.llp_tables.specs.Lookback.{IsPiece}
 use Rattle.llp_tables.specs.Lookbacks.{cells_at}
-use Rattle.llp_tables.specs.Pairs.{width}
-use Rattle.llp_tables.specs.PieceRows.{width_of}
+use Rattle.ll1_sets.specs.Width.{width_of as width, width_of}
 use Rattle.llp_tables.specs.Pieces.{AddsPiece}
-use Rattle.llp_tables.specs.Predict.{IsLl1}
+use Rattle.ll1_sets.specs.Predict.{IsLl1, IsNotLeftRecursive}
 use Rattle.llp_tables.specs.Slots.{Slots, Empty, One, Two}
-use Rattle.llp_tables.specs.Tables.{Entry, IsNotLeftRecursive}
+use Rattle.llp_tables.specs.Tables.{Entry}
 use Rattle.llp_tables.specs.declared.cells.Members.{Members}
-use Rattle.llp_tables.proofs.FormTests.{both, and}
-use Rattle.llp_tables.proofs.LeftRecursion.{not_left_recursive}
+use Rattle.ll1_sets.proofs.FormTests.{both, and}
+use Rattle.ll1_sets.proofs.LeftRecursion.{not_left_recursive}
 use Rattle.llp_tables.proofs.StackOrder.{before_not_itself}
 use Rattle.llp_wide.specs.Triples.{entry_at, IsNumberOf, ArePiecesFor, AddsOne, HasNumber, TellsTriple, AreTriples, AreTriplesUpTo}
 use Rattle.llp_wide.specs.Wide.{IsWideLookback, IsWideLlp, IsWideEntry, HasWideEntry}

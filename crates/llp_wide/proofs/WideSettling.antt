@@ -7,12 +7,12 @@ use Rattle.grammar_file.specs.Grammar.{Grammar, begin_mark, end_mark}
 use Rattle.grammar_file.specs.Drive.{first_stack}
 use Rattle.grammar_file.specs.Marks.{AreMarksOf}
 use Rattle.llp_tables.specs.Cells.{IsBefore, IsCovered}
-use Rattle.llp_tables.specs.Lookback.{BeginsAtLast}
+use Rattle.ll1_sets.specs.Behind.{BeginsAtLast}
 use Rattle.llp_tables.specs.Slots.{Slots, Empty, Holds, AreInOrder, covers, add, room}
 use Rattle.llp_tables.proofs.Filling.{covers_is, covers_more, add_holds, add_ordered, add_room, up_to, keeps_least}
 use Rattle.llp_tables.proofs.Forcing.{stop_begins, stop_of}
-use Rattle.llp_tables.proofs.FormTests.{Nullable, First, vanishing, vanishes_exactly}
-use Rattle.llp_tables.proofs.Rules.{one_end}
+use Rattle.ll1_sets.proofs.FormTests.{Nullable, First, vanishing, vanishes_exactly}
+use Rattle.ll1_sets.proofs.BehindRules.{one_end}
 use Rattle.llp_tables.proofs.StackOrder.{before_not_itself, not_before_front}
 use Rattle.llp_tables.proofs.TwoLeast.{covered_pass}
 use Rattle.llp_wide.specs.Added.{IsIn, Adds}

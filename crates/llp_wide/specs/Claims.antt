@@ -7,7 +7,7 @@ use Rattle.grammar_file.specs.Drive.{first_stack}
 use Rattle.llp_tables.specs.Cells.{IsBefore}
 use Rattle.llp_tables.specs.Forced.{is_stop}
 use Rattle.llp_tables.specs.LeastMembers.{KeepsLeast}
-use Rattle.llp_tables.specs.Marking.{all_vanish}
+use Rattle.ll1_sets.specs.Marking.{all_vanish}
 use Rattle.llp_tables.specs.Slots.{Slots, covers}
 use Rattle.llp_wide.specs.WideBehind.{WideBehind}
 use Rattle.llp_wide.specs.Added.{IsIn, SomeBelow}

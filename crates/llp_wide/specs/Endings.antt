@@ -5,7 +5,7 @@ use Rattle.grammar_file.specs.declared.symbols.Symbol.TheVariants.{Nonterminal}
 use Rattle.grammar_file.specs.Grammar.{Grammar}
 use Rattle.grammar_file.specs.Derivation.{Derives, word_form}
 use Rattle.grammar_file.specs.Marks.{AreMarksOf}
-use Rattle.llp_tables.specs.Marking.{all_vanish, starts}
+use Rattle.ll1_sets.specs.Marking.{all_vanish, starts}
 use Rattle.llp_wide.specs.declared.endings.LastMarks.{LastMarks}
 
 -- y is in LAST(form): the form derives a word that ends with y

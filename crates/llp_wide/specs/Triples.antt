@@ -4,7 +4,7 @@ use Rattle.std.specs.List.{AllByRecursion}
 use Rattle.grammar_file.specs.declared.symbols.Symbol.{Symbol}
 use Rattle.grammar_file.specs.Grammar.{Grammar}
 use Rattle.llp_tables.specs.Lookback.{IsPiece}
-use Rattle.llp_tables.specs.PieceRows.{width_of}
+use Rattle.ll1_sets.specs.Width.{width_of}
 use Rattle.llp_tables.specs.Tables.{Entry}
 use Rattle.llp_wide.specs.Wide.{HasWideEntry}
 use Rattle.llp_wide.specs.WideEntries.{triple_place}

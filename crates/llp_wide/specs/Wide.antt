@@ -4,7 +4,8 @@ use Rattle.grammar_file.specs.declared.symbols.Symbol.{Symbol}
 use Rattle.grammar_file.specs.declared.symbols.Symbol.TheVariants.{Terminal}
 use Rattle.grammar_file.specs.Grammar.{Grammar, whole, begin_mark}
 use Rattle.grammar_file.specs.Derivation.{FirstReaches}
-use Rattle.llp_tables.specs.Lookback.{BeginsAtLast, IsPiece}
+use Rattle.ll1_sets.specs.Behind.{BeginsAtLast}
+use Rattle.llp_tables.specs.Lookback.{IsPiece}
 use Rattle.llp_tables.specs.Tables.{Entry, stack_lt}
 
 -- what the whole text is derived from where two terminals are looked back at: the begin mark stands twice

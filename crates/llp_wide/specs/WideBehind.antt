@@ -5,8 +5,8 @@ use Rattle.grammar_file.specs.declared.symbols.Symbol.TheVariants.{Terminal, Non
 use Rattle.grammar_file.specs.Grammar.{Grammar, Production, production, begin_mark, end_mark}
 use Rattle.grammar_file.specs.Derivation.{Derives, word_form}
 use Rattle.grammar_file.specs.Drive.{first_stack}
-use Rattle.llp_tables.specs.Predict.{IsNullable}
-use Rattle.llp_tables.specs.Lookback.{BeginsAtLast}
+use Rattle.ll1_sets.specs.Predict.{IsNullable}
+use Rattle.ll1_sets.specs.Behind.{BeginsAtLast}
 use Rattle.llp_wide.specs.Wide.{wide_whole}
 
 -- the last terminal of a word, or else the one before it

@@ -2,8 +2,8 @@
 use Rattle.std.specs.Prelude.{◌≡◌, ℕ, ◌+◌, ◌*◌, ◌<◌, List, length, Bool, true, false, ◌&&◌, nat_lt, if◌then◌else◌, Option, None, slice_index_or, count_by, get_or}
 use Rattle.grammar_file.specs.declared.symbols.Symbol.{Symbol}
 use Rattle.grammar_file.specs.Grammar.{Grammar}
-use Rattle.llp_tables.specs.Pairs.{width}
-use Rattle.llp_tables.specs.Predict.{IsLl1}
+use Rattle.ll1_sets.specs.Width.{width_of as width}
+use Rattle.ll1_sets.specs.Predict.{IsLl1}
 use Rattle.llp_tables.specs.Tables.{Entry}
 use Rattle.llp_wide.specs.Wide.{IsWideLookback, IsWideLlp, HasWideEntry}
 

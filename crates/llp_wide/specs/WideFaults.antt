@@ -3,8 +3,7 @@ use Rattle.std.specs.Prelude.{ℕ, List, ◌++◌, codes, decimal}
 use Rattle.grammar_file.specs.declared.symbols.Symbol.TheVariants.{Terminal, Nonterminal}
 use Rattle.grammar_file.specs.Grammar.{Grammar}
 use Rattle.llp_tables.specs.FaultLines.{text_of, stack_text}
-use Rattle.llp_tables.specs.Predict.{IsLl1}
-use Rattle.llp_tables.specs.Tables.{IsLeastLeftRecursive, IsNotLeftRecursive, IsLeastConflict}
+use Rattle.ll1_sets.specs.Predict.{IsLl1, IsLeastLeftRecursive, IsNotLeftRecursive, IsLeastConflict}
 use Rattle.llp_wide.specs.Wide.{IsLeastWideConflict}
 use Rattle.llp_wide.specs.declared.fault.WideFault.{WideFault}
 use Rattle.llp_wide.specs.declared.fault.WideFault.TheVariants.{LeftRecursive, Ll1, Wide, NoMemory}

@@ -5,7 +5,7 @@ ghost use Rattle.grammar_file.specs.declared.symbols.Symbol.TheVariants.{Termina
 ghost use Rattle.grammar_file.specs.Grammar.{Grammar as AnyGrammar, IsWellFormed};
 ghost use Rattle.grammar_file.specs.Marks.{AreMarksOf};
 ghost use Rattle.llp_tables.specs.Lookbacks.{HasNoTwo, cells_at};
-ghost use Rattle.llp_tables.specs.Predict.{IsNullable};
+ghost use Rattle.ll1_sets.specs.Predict.{IsNullable};
 ghost use Rattle.llp_tables.specs.Slots.{Two};
 ghost use Rattle.llp_wide.specs.Places.{AreSpots};
 ghost use Rattle.llp_wide.specs.Wide.{IsLeastWideConflict, IsWideLlp};

@@ -5,8 +5,8 @@ ghost use Rattle.grammar_file.specs.declared.symbols.Symbol.TheVariants.{Nonterm
 ghost use Rattle.grammar_file.specs.Grammar.{IsWellFormed};
 ghost use Rattle.grammar_file.specs.Marks.{AreMarksOf};
 ghost use Rattle.grammar_file.specs.Spelling.{IsReduced};
-ghost use Rattle.llp_tables.specs.Marking.{IsNextBy, IsClosedBy};
-ghost use Rattle.llp_tables.specs.Predict.{IsNullable};
+ghost use Rattle.ll1_sets.specs.Marking.{IsNextBy, IsClosedBy};
+ghost use Rattle.ll1_sets.specs.Predict.{IsNullable};
 ghost use Rattle.llp_wide.specs.Endings.{IsLast, finishes, is_ending, marks_at, AreEndings};
 
 use grammar_file::{Grammar, Production, Symbol};

@@ -1,8 +1,7 @@
 // Why a grammar has no tables where two terminals are looked back at.
 
 ghost use Rattle.std.specs.Prelude.{◌≡◌, IfOk, MatchOption};
-ghost use Rattle.llp_tables.specs.Predict.{IsLl1};
-ghost use Rattle.llp_tables.specs.Tables.{IsNotLeftRecursive};
+ghost use Rattle.ll1_sets.specs.Predict.{IsLl1, IsNotLeftRecursive};
 ghost use Rattle.llp_wide.specs.WideFaults.{IsWideFault, line_of_wide_fault};
 ghost use Rattle.llp_wide.specs.declared.fault.WideFault.TheVariants.{Wide as AnyWide};
 

@@ -5,7 +5,7 @@ ghost use Rattle.grammar_file.specs.declared.symbols.Symbol.TheVariants.{Nonterm
 ghost use Rattle.grammar_file.specs.Grammar.{IsWellFormed};
 ghost use Rattle.grammar_file.specs.Marks.{AreMarksOf};
 ghost use Rattle.llp_tables.specs.EntryTable.{AreTablesOf, EntryTable};
-ghost use Rattle.llp_tables.specs.Predict.{IsLl1, IsNullable};
+ghost use Rattle.ll1_sets.specs.Predict.{IsLl1, IsNullable};
 ghost use Rattle.llp_wide.specs.Places.{AreSpots};
 ghost use Rattle.llp_wide.specs.Wide.{IsWideLlp};
 ghost use Rattle.llp_wide.specs.WideEntries.{AreWideTablesOf};

@@ -6,7 +6,7 @@ ghost use Rattle.grammar_file.specs.Grammar.{IsWellFormed};
 ghost use Rattle.grammar_file.specs.Marks.{AreMarksOf};
 ghost use Rattle.llp_tables.specs.LeastMembers.{KeepsLeast};
 ghost use Rattle.llp_tables.specs.Lookbacks.{cells_at};
-ghost use Rattle.llp_tables.specs.Predict.{IsNullable};
+ghost use Rattle.ll1_sets.specs.Predict.{IsNullable};
 ghost use Rattle.llp_wide.specs.Places.{AreSpots};
 ghost use Rattle.llp_wide.specs.Wide.{IsWideLookback};
 ghost use Rattle.llp_wide.specs.WideConflicts.{TellWide};

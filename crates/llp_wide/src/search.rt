@@ -6,7 +6,7 @@ ghost use Rattle.grammar_file.specs.declared.symbols.Symbol.TheVariants.{Nonterm
 ghost use Rattle.grammar_file.specs.Grammar.{IsWellFormed};
 ghost use Rattle.grammar_file.specs.Marks.{AreMarksOf};
 ghost use Rattle.llp_tables.specs.Lookbacks.{cells_at};
-ghost use Rattle.llp_tables.specs.Predict.{IsNullable, IsFirst};
+ghost use Rattle.ll1_sets.specs.Predict.{IsNullable, IsFirst};
 ghost use Rattle.llp_tables.specs.Slots.{Empty as EmptySlots, covers};
 ghost use Rattle.llp_wide.specs.Claims.{AreLeastWide, IsLeastClaim, IsPassOf};
 ghost use Rattle.llp_wide.specs.Added.{Adds};

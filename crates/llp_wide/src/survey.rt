@@ -5,7 +5,7 @@ ghost use Rattle.grammar_file.specs.declared.symbols.Symbol.TheVariants.{Nonterm
 ghost use Rattle.grammar_file.specs.Grammar.{IsWellFormed};
 ghost use Rattle.grammar_file.specs.Marks.{AreMarksOf};
 ghost use Rattle.grammar_file.specs.Spelling.{IsReduced};
-ghost use Rattle.llp_tables.specs.Predict.{IsNullable};
+ghost use Rattle.ll1_sets.specs.Predict.{IsNullable};
 ghost use Rattle.llp_wide.specs.Added.{IsIn, SomeBelow};
 ghost use Rattle.llp_wide.specs.Endings.{AreEndings};
 ghost use Rattle.llp_wide.specs.Places.{Spot, AreSpots};

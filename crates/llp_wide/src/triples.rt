@@ -4,9 +4,8 @@ ghost use Rattle.std.specs.Prelude.{◌≡◌, ◌<◌, ◌+◌, ◌*◌, ◌∷
 ghost use Rattle.grammar_file.specs.declared.symbols.Symbol.TheVariants.{Nonterminal as AnyNonterminal};
 ghost use Rattle.grammar_file.specs.Grammar.{IsWellFormed};
 ghost use Rattle.grammar_file.specs.Marks.{AreMarksOf};
-ghost use Rattle.llp_tables.specs.PieceRows.{width_of};
-ghost use Rattle.llp_tables.specs.Pieces.{ArePredictions};
-ghost use Rattle.llp_tables.specs.Predict.{IsLl1, IsNullable};
+ghost use Rattle.ll1_sets.specs.Width.{width_of};
+ghost use Rattle.ll1_sets.specs.Predict.{ArePredictions, IsLl1, IsNullable};
 ghost use Rattle.llp_wide.specs.Places.{AreSpots};
 ghost use Rattle.llp_wide.specs.Triples.{AreTriples, AreTriplesUpTo};
 ghost use Rattle.llp_wide.specs.Wide.{IsWideLlp};

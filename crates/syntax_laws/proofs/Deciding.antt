@@ -11,8 +11,7 @@ use Rattle.grammar_file.specs.Drive.{Rule, Reads, Drives}
 use Rattle.grammar_file.specs.Derivation.{Derives}
 use Rattle.grammar_file.proofs.Derives.{derives_step, derives_on, derives_above, derives_both}
 use Rattle.grammar_file.proofs.Marks.{unmarked, unmarked-set, marked_more}
-use Rattle.llp_tables.specs.Predict.{IsNullable}
-use Rattle.llp_tables.specs.Tables.{IsNotLeftRecursive}
+use Rattle.ll1_sets.specs.Predict.{IsNullable, IsNotLeftRecursive}
 
 abbrev pub Decided : Type 0 → Type 0
 Decided P = P ⊎ (P → ⊥)

@@ -11,7 +11,7 @@ use Rattle.grammar_file.specs.SyntaxPlace.{IsViable, IsSyntaxPlace, ended}
 use Rattle.grammar_file.proofs.Viable.{viable_of_drives, drives_of_viable, rights_derivable, start_productive}
 use Rattle.source_meaning.specs.Lexemes.{Token, tokens, lexical_fault, place_of}
 use Rattle.source_meaning.specs.Grammar.{grammar, terminal_number, number_of, Tree, Prog, leaves, left_parse, ast}
-use Rattle.llp_tables.specs.Tables.{IsNotLeftRecursive}
+use Rattle.ll1_sets.specs.Predict.{IsNotLeftRecursive}
 use Rattle.verdict.specs.Verdict.{Verdict, Diagnosed, Limited, IsVerdict, too_large, lexical, syntactic, parsed, judged, word, most_source}
 use Rattle.syntax_laws.proofs.Deciding.{Decided, Driven, drives}
 use Rattle.syntax_laws.proofs.Ending.{sentence_of_viable}

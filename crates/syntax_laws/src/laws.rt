@@ -5,8 +5,7 @@ ghost use Rattle.grammar_file.specs.Grammar.{Grammar, IsWellFormed};
 ghost use Rattle.grammar_file.specs.Derivation.{IsSentence};
 ghost use Rattle.grammar_file.specs.Spelling.{IsReduced};
 ghost use Rattle.grammar_file.specs.SyntaxPlace.{IsSyntaxPlace};
-ghost use Rattle.llp_tables.specs.Predict.{IsLl1};
-ghost use Rattle.llp_tables.specs.Tables.{IsNotLeftRecursive};
+ghost use Rattle.ll1_sets.specs.Predict.{IsLl1, IsNotLeftRecursive};
 ghost use Rattle.source_meaning.specs.Grammar.{grammar};
 ghost use Rattle.verdict.specs.Verdict.{IsVerdict, Verdict};
 

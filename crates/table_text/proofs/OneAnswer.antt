@@ -7,7 +7,7 @@ use Rattle.grammar_file.specs.Spelling.{IsReduced, SpelledBy, Spells, read}
 use Rattle.grammar_file.specs.SyntaxPlace.{IsSyntaxPlace, ended}
 use Rattle.grammar_file.specs.FaultLines.{line_of_fault as line_of_grammar_fault}
 use Rattle.grammar_file.specs.declared.file.GrammarFault.{GrammarFault}
-use Rattle.llp_tables.specs.Predict.{IsLl1}
+use Rattle.ll1_sets.specs.Predict.{IsLl1}
 use Rattle.llp_tables.specs.Lookback.{IsLlp}
 use Rattle.llp_tables.specs.Tables.{IsTableFault}
 use Rattle.llp_tables.specs.Pairs.{CountsPairs}

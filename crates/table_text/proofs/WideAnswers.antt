@@ -10,9 +10,9 @@ use Rattle.grammar_file.specs.Grammar.{Grammar}
 use Rattle.llp_tables.specs.declared.fault.TableFault.{TableFault}
 use Rattle.llp_tables.specs.declared.fault.TableFault.TheVariants as narrow
 use Rattle.llp_tables.specs.Cells.{IsBefore}
-use Rattle.llp_tables.specs.Pairs.{width}
-use Rattle.llp_tables.specs.Predict.{IsLl1}
-use Rattle.llp_tables.specs.Tables.{IsLeastConflict, IsNotLeftRecursive, IsTableFault}
+use Rattle.ll1_sets.specs.Width.{width_of}
+use Rattle.ll1_sets.specs.Predict.{IsLl1, IsLeastConflict, IsNotLeftRecursive}
+use Rattle.llp_tables.specs.Tables.{IsTableFault}
 use Rattle.llp_tables.proofs.StackOrder.{before_cases, before_not_itself, before_trans}
 use Rattle.llp_wide.specs.Wide.{IsWideLlp, HasTwoWideMembers, IsLeastWideConflict}
 use Rattle.llp_wide.specs.WideEntries.{CountsTriples, triple_place}
@@ -134,12 +134,12 @@ placed i w = ap (λ n. n * w + i % w) (div-add-mod' (i / w) w) ∙ div-add-mod' 
 pub one_count : (g : Grammar) (m n : ℕ) → CountsTriples g m → CountsTriples g n → m ≡ n
 one_count g m n j k = j.count ∙ ap (count_by (λ mark. mark)) same ∙ sym k.count
   where
-    at_triple : (z a b : ℕ) → z < width g → a < width g → b < width g
-        → get_or j.marks (triple_place (width g) z a b) false ≡ get_or k.marks (triple_place (width g) z a b) false
-    at_triple z a b p q r = go (get_or j.marks (triple_place (width g) z a b) false) (get_or k.marks (triple_place (width g) z a b) false) refl refl
+    at_triple : (z a b : ℕ) → z < width_of g → a < width_of g → b < width_of g
+        → get_or j.marks (triple_place (width_of g) z a b) false ≡ get_or k.marks (triple_place (width_of g) z a b) false
+    at_triple z a b p q r = go (get_or j.marks (triple_place (width_of g) z a b) false) (get_or k.marks (triple_place (width_of g) z a b) false) refl refl
       where
-        go : (x y : Bool) → get_or j.marks (triple_place (width g) z a b) false ≡ x → get_or k.marks (triple_place (width g) z a b) false ≡ y
-            → get_or j.marks (triple_place (width g) z a b) false ≡ get_or k.marks (triple_place (width g) z a b) false
+        go : (x y : Bool) → get_or j.marks (triple_place (width_of g) z a b) false ≡ x → get_or k.marks (triple_place (width_of g) z a b) false ≡ y
+            → get_or j.marks (triple_place (width_of g) z a b) false ≡ get_or k.marks (triple_place (width_of g) z a b) false
         go true true e f = e ∙ sym f
         go false false e f = e ∙ sym f
         go true false e f = absurd (k.unmarked z a b p q r f (j.marked z a b p q r e))
@@ -147,7 +147,7 @@ one_count g m n j k = j.count ∙ ap (count_by (λ mark. mark)) same ∙ sym k.c
 
     same : j.marks ≡ k.marks
     same = ext_get_or false j.marks k.marks (j.size ∙ sym k.size) (λ i h.
-        let inside : i < width g * width g * width g = subst (λ n. i < n) j.size h in
-        let some = positive i (width g) inside in
-        subst (λ i. get_or j.marks i false ≡ get_or k.marks i false) (placed i (width g))
-        (at_triple ((i / width g) % width g) (i % width g) (i / width g / width g) (mod-lt (i / width g) some) (mod-lt i some) (layer_of i (width g) inside)))
+        let inside : i < width_of g * width_of g * width_of g = subst (λ n. i < n) j.size h in
+        let some = positive i (width_of g) inside in
+        subst (λ i. get_or j.marks i false ≡ get_or k.marks i false) (placed i (width_of g))
+        (at_triple ((i / width_of g) % width_of g) (i % width_of g) (i / width_of g / width_of g) (mod-lt (i / width_of g) some) (mod-lt i some) (layer_of i (width_of g) inside)))

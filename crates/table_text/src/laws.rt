@@ -3,7 +3,7 @@
 ghost use Rattle.std.specs.Prelude.{◌≡◌, ℕ, List, Option};
 ghost use Rattle.grammar_file.specs.Grammar.{Grammar, IsWellFormed};
 ghost use Rattle.grammar_file.specs.Spelling.{IsReduced};
-ghost use Rattle.llp_tables.specs.Predict.{IsLl1};
+ghost use Rattle.ll1_sets.specs.Predict.{IsLl1};
 ghost use Rattle.llp_wide.specs.Wide.{IsWideLlp};
 ghost use Rattle.llp_wide.specs.WideEntries.{CountsTriples};
 ghost use Rattle.llp_wide.specs.WideFaults.{IsWideFault};

@@ -3,8 +3,6 @@ use Rattle.std.proofs.Common.{◌≡◌, ℕ, ◌+◌, ◌<◌, arith, List, dro
 use Rattle.std.proofs.lemmas.List.{take-append-drop}
 use Rattle.grammar_file.specs.Derivation.{IsLeftParse, IsSentence}
 use Rattle.grammar_file.specs.SyntaxPlace.{IsSyntaxPlace, ended}
-use Rattle.llp_tables.specs.Predict.{IsLl1}
-use Rattle.llp_tables.proofs.Ll1.{left_parse_same}
 use Rattle.source_meaning.specs.Lexemes.{tokens, lexical_fault, place_of}
 use Rattle.source_meaning.specs.Grammar.{grammar, terminal_number, Tree, Prog, leaves, left_parse, ast}
 use Rattle.source_meaning.proofs.Derived.{is_left_parse, numbers}
@@ -32,12 +30,12 @@ same_fault o c p d q e f = pairs (c, p) (d, q) (let both : ◌≡◌ {A = Option
 no_fault : (o : Option (ℕ × ℕ)) (c p : ℕ) → o ≡ Some (c, p) → o ≡ None → ⊥
 no_fault o c p e f = let both : ◌≡◌ {A = Option (ℕ × ℕ)} (Some (c, p)) None = sym e ∙ f in cc
 
-module _ (ll1 : IsLl1 grammar) where
+module _ (one_parse : (w ps qs : List ℕ) → IsLeftParse grammar w ps → IsLeftParse grammar w qs → ps ≡ qs) where
   word_of : (text : List ℕ) (t : Tree Prog) → leaves t ≡ tokens text → IsLeftParse grammar (word text) (numbers (left_parse t))
   word_of text t e = subst (λ ts. IsLeftParse grammar (map (λ k. terminal_number k.terminal) ts) (numbers (left_parse t))) e (is_left_parse t)
 
   same_tree : (text : List ℕ) (t u : Tree Prog) → leaves t ≡ tokens text → leaves u ≡ tokens text → t ≡ u
-  same_tree text t u e f = one_tree t u (e ∙ sym f) (left_parse_same grammar ll1 (word text) (numbers (left_parse t)) (numbers (left_parse u)) (word_of text t e) (word_of text u f))
+  same_tree text t u e f = one_tree t u (e ∙ sym f) (one_parse (word text) (numbers (left_parse t)) (numbers (left_parse u)) (word_of text t e) (word_of text u f))
 
   pub same_verdict : (text : List ℕ) (v w : Verdict) → IsVerdict text v → IsVerdict text w → v ≡ w
   same_verdict text _ _ (too_large h) (too_large k) = refl

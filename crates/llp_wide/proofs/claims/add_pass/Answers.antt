@@ -1,6 +1,6 @@
 use Rattle.std.proofs.Common.{◌≡◌, ◌++◌, ◌∷◌, [], List, true, sym, ap, ◌∙◌}
 use Rattle.grammar_file.specs.declared.symbols.Symbol.{Symbol}
-use Rattle.llp_tables.specs.Marking.{all_vanish}
+use Rattle.ll1_sets.specs.Marking.{all_vanish}
 use Rattle.llp_wide.specs.Claims.{Claim}
 use Rattle.llp_wide.specs.Places.{Spot}
 use Rattle.llp_wide.proofs.ClaimLists.{pass_added}

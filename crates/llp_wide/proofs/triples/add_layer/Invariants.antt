@@ -1,4 +1,4 @@
-use Rattle.llp_tables.specs.PieceRows.{width_of}
+use Rattle.ll1_sets.specs.Width.{width_of}
 use Rattle.llp_wide.specs.Triples.{AreTriplesUpTo}
 use Rattle.llp_wide.specs.WideEntries.{triple_place}
 use Rattle.llp_wide.proofs.triples.add_layer.Given as goal

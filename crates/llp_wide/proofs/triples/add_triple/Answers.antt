@@ -1,5 +1,5 @@
 use Rattle.std.proofs.Common.{ℕ, ◌+◌, List, Option, length, sym, subst}
-use Rattle.llp_tables.specs.PieceRows.{width_of}
+use Rattle.ll1_sets.specs.Width.{width_of}
 use Rattle.llp_wide.specs.Triples.{AreTriplesUpTo}
 use Rattle.llp_wide.specs.WideEntries.{triple_place}
 use Rattle.llp_wide.proofs.TripleLists.{few_pieces, triples_more}

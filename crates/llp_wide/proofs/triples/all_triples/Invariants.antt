@@ -1,5 +1,5 @@
 use Rattle.std.proofs.Common.{◌≡◌, length}
-use Rattle.llp_tables.specs.PieceRows.{width_of}
+use Rattle.ll1_sets.specs.Width.{width_of}
 use Rattle.llp_wide.specs.Triples.{AreTriples}
 use Rattle.llp_wide.specs.WideEntries.{triple_place}
 use Rattle.llp_wide.proofs.triples.all_triples.Given as goal

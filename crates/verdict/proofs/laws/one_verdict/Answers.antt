@@ -4,4 +4,4 @@ use Rattle.verdict.proofs.OneVerdict.{same_verdict}
 use Rattle.verdict.proofs.laws.one_verdict.Goals as goal
 
 pub returns : goal.returns
-returns c = same_verdict (c.g1_is_ll1_and_llp.ensures grammar c.grammar_is_spelled.ensures refl).0
+returns c = same_verdict (c.ll1_is_unambiguous.ensures.left_parse grammar (c.g1_is_ll1_and_llp.ensures grammar c.grammar_is_spelled.ensures refl).0)

@@ -1,0 +1,11 @@
+use Rattle.std.proofs.Common.{◌≡◌, ℕ, [], ◌∷◌, length, true, false, get_or}
+use Rattle.grammar_file.specs.declared.symbols.Symbol.TheVariants.{Nonterminal}
+use Rattle.grammar_file.proofs.Marks.{unmarked}
+use Rattle.ll1_sets.specs.Predict.{IsNullable}
+use Rattle.ll1_sets.proofs.sets.nullable.Given as goal
+
+abbrev pub invariant-loop-a : goal.invariant-loop-a
+invariant-loop-a l = record { len : length l.marks.items ≡ length l.grammar.nonterminals; sound : (x : ℕ) → get_or l.marks.items x false ≡ true → IsNullable l.grammar (Nonterminal x ∷ []) }
+
+abbrev pub decreases-loop-a : goal.decreases-loop-a
+decreases-loop-a l = unmarked l.marks.items
