@@ -408,3 +408,57 @@ fn two_workers_meet_at_rows(rt: HostRuntime) -> Result<(), Fail> {
     assert_eq!(rt; gate.alone.load(Ordering::SeqCst), 0);
     Ok(())
 }
+
+// Counts the chunks that are drawn.
+#[derive(Drop)]
+struct Draws {
+    count: AtomicU64,
+}
+
+impl Gate for Draws {
+    fn after_claim(&self, _worker: u32, chunk: Option<u64>) {
+        if chunk.is_some() {
+            self.count.fetch_add(1, Ordering::SeqCst);
+        }
+    }
+}
+
+// How many chunks so many workers draw in all while they make the rows of a source.
+fn count_draws<R: Threads + Sync>(
+    rt: &R,
+    alloc: Global,
+    workers: u32,
+    source: &[u8],
+) -> Result<u64, Fail> {
+    let plan = Plan::new(workers, 1).ok_or("in range")?;
+    let before = Workers {
+        runtime: rt,
+        alloc,
+        plan,
+        gate: &OpenGate,
+    };
+    let gate = Draws {
+        count: AtomicU64::new(0),
+    };
+    let crew = Workers {
+        runtime: rt,
+        alloc,
+        plan,
+        gate: &gate,
+    };
+    match shape(&before, &crew, source)? {
+        Ok(_) => Ok(gate.count.load(Ordering::SeqCst)),
+        Err(_) => Err("a fault of shape".into()),
+    }
+}
+
+#[test]
+fn two_workers_take_stretches(rt: HostRuntime) -> Result<(), Fail> {
+    let alone = count_draws(&rt, rt.alloc(), 1, LEFT.0)?;
+    let together = count_draws(&rt, rt.alloc(), 2, LEFT.0)?;
+    // The owned tokens are drawn one by one by both. The last stretch of productions is only walked over, and two workers have four or more where one has one.
+    let sums_and_pieces = 2 * 3;
+    let walks_and_kin = 2 * (4 - 1);
+    assert!(rt; together >= alone + sums_and_pieces + walks_and_kin);
+    Ok(())
+}

@@ -49,26 +49,26 @@ kept_kind Eval place h = absurd (no_true h)
 
 module _ (c : Columns) (p : Program) (are : AreColumnsOf c p) (lows : List ℕ) (lows_are : lows ≡ lows_of (parent_numbers 0 (post p))) where
   abbrev begin : ℕ → ℕ
-  begin k = get_or (layout.begins c.kinds.now c.parents.now c.places.now c.depths.now c.functions.now c.numbers.now c.ends.now c.frames.now) k 0
+  begin k = get_or (layout.begins c) k 0
 
   abbrev list : List ℕ
-  list = layout.kept c.kinds.now c.parents.now c.places.now c.depths.now c.functions.now c.numbers.now c.ends.now c.frames.now
+  list = layout.kept c
 
   abbrev above : ℕ → Kind
-  above k = layout.above c.kinds.now c.parents.now c.places.now c.depths.now c.functions.now c.numbers.now c.ends.now c.frames.now k
+  above k = layout.above c k
 
   abbrev test : ℕ → Bool
   test k = layout.is_kept (above k) (get_or c.places.now k 0)
 
   abbrev value : ℕ → ℕ
-  value k = layout.kept_by c.kinds.now c.parents.now c.places.now c.depths.now c.functions.now c.numbers.now c.ends.now c.frames.now (above k) k
+  value k = layout.kept_by c (above k) k
 
   many : length c.kinds.now ≡ length (post p)
-  many = rows_many c.kinds.now c.parents.now c.places.now c.depths.now c.functions.now c.numbers.now c.ends.now c.frames.now p are
+  many = rows_many c p are
 
   -- where the expression begins that ends at a row, row by row
   abbrev step : ℕ → ℕ
-  step k = layout.begin_step c.kinds.now c.parents.now c.places.now c.depths.now c.functions.now c.numbers.now c.ends.now c.frames.now k
+  step k = layout.begin_step c k
 
   begin_first : begin 0 ≡ 0
   begin_first = prefix_first greatest (map step (range_with_len 0 (length c.kinds.now)))
@@ -78,8 +78,8 @@ module _ (c : Columns) (p : Program) (are : AreColumnsOf c p) (lows : List ℕ) 
       let l : length (map step (range_with_len 0 (length c.kinds.now))) ≡ length c.kinds.now = length-map-range_with_len step 0 (length c.kinds.now) in
       let e = many in
       prefix_step greatest (map step (range_with_len 0 (length c.kinds.now))) k (omega arith)
-      ∙ ap (λ x. max (begin k) x) (get_or-map-range_with_len step 0 (length c.kinds.now) k k 0 (omega arith) (omega arith) ∙ ap (λ (kind : Kind). cond (is_operator kind) 0 (k + 1)) (above_is c.kinds.now c.parents.now c.places.now c.depths.now c.functions.now c.numbers.now c.ends.now c.frames.now p are k lt))
-      ∙ either (is_operator (parent_kind p k)) (begin_low c.kinds.now c.parents.now c.places.now c.depths.now c.functions.now c.numbers.now c.ends.now c.frames.now p are k (omega arith))
+      ∙ ap (λ x. max (begin k) x) (get_or-map-range_with_len step 0 (length c.kinds.now) k k 0 (omega arith) (omega arith) ∙ ap (λ (kind : Kind). cond (is_operator kind) 0 (k + 1)) (above_is c p are k lt))
+      ∙ either (is_operator (parent_kind p k)) (begin_low c p are k (omega arith))
     where
       either : (b : Bool) → begin k ≤ k → max (begin k) (cond b 0 (k + 1)) ≡ cond b (begin k) (k + 1)
       either true le = omega arith
@@ -95,36 +95,36 @@ module _ (c : Columns) (p : Program) (are : AreColumnsOf c p) (lows : List ℕ) 
   child_told k lt h inside =
       let q = get_or c.parents.now k 0 in
       let low = low_at (parent_numbers 0 (post p)) in
-      let parent : q ≡ k + (row_at p k).up = parent_is c.kinds.now c.parents.now c.places.now c.depths.now c.functions.now c.numbers.now c.ends.now c.frames.now p are k lt in
-      let kind : above k ≡ parent_kind p k = above_is c.kinds.now c.parents.now c.places.now c.depths.now c.functions.now c.numbers.now c.ends.now c.frames.now p are k lt in
-      let place : get_or c.places.now k 0 ≡ (row_at p k).place = place_is c.kinds.now c.parents.now c.places.now c.depths.now c.functions.now c.numbers.now c.ends.now c.frames.now p are k in
+      let parent : q ≡ k + (row_at p k).up = parent_is c p are k lt in
+      let kind : above k ≡ parent_kind p k = above_is c p are k lt in
+      let place : get_or c.places.now k 0 ≡ (row_at p k).place = place_is c p are k in
       elim (kept_kind (above k) (get_or c.places.now k 0) h) [
         | inl e ↦ (let t : low (k + (row_at p k).up - 1) ≡ k + 1 = second_told p begin begin_first begin_next k lt (sym kind ∙ e.0) (sym place ∙ e.1) in
             ap (λ (y : Kind). child_by y (get_or lows q 0) (get_or lows (q - 1) 0)) e.0
             ∙ low_read (q - 1) (omega arith)
             ∙ ap (λ (m : ℕ). low (m - 1)) parent
             ∙ t
-            ∙ sym (ap (λ (y : Kind). layout.kept_by c.kinds.now c.parents.now c.places.now c.depths.now c.functions.now c.numbers.now c.ends.now c.frames.now y k) e.0))
+            ∙ sym (ap (λ (y : Kind). layout.kept_by c y k) e.0))
         | inr e ↦ (let t : begin k ≡ low (k + (row_at p k).up) = start_told p begin begin_first begin_next k lt (sym kind ∙ e.0) (sym place ∙ e.1) in
             let r : get_or lows q 0 ≡ begin k = low_read q inside ∙ ap low parent ∙ sym t in
             let few = are.few in
-            let l = begin_low c.kinds.now c.parents.now c.places.now c.depths.now c.functions.now c.numbers.now c.ends.now c.frames.now p are k (omega arith) in
+            let l = begin_low c p are k (omega arith) in
             let small : min (get_or lows q 0 + 1) 4294967295 ≡ begin k + 1 = omega arith in
             ap (λ (y : Kind). child_by y (get_or lows q 0) (get_or lows (q - 1) 0)) e.0
             ∙ small
-            ∙ sym (ap (λ (y : Kind). layout.kept_by c.kinds.now c.parents.now c.places.now c.depths.now c.functions.now c.numbers.now c.ends.now c.frames.now y k) e.0))
+            ∙ sym (ap (λ (y : Kind). layout.kept_by c y k) e.0))
       ]
 
   -- all kept children stand at their parents
   pub children_told : (v : List ℕ) → v ≡ map (child_of c lows) (rows_of c) → AreChildren c v
   children_told v is i lt =
-      let n = lengths c.kinds.now c.parents.now c.places.now c.depths.now c.functions.now c.numbers.now c.ends.now c.frames.now p are in
+      let n = lengths c p are in
       let e = many in
       let li : i < length list = omega arith in
       let h = passing test 0 (length c.kinds.now) i li in
       let k = get_or list i 0 in
       let high = h.1 in
-      let f = (fit c.kinds.now c.parents.now c.places.now c.depths.now c.functions.now c.numbers.now c.ends.now c.frames.now p are i lt).0 in
+      let f = (fit c p are i lt).0 in
       let at : get_or (kept_places_of c) i 0 ≡ get_or c.parents.now k 0 = get_or-map (λ (m : ℕ). get_or c.parents.now m 0) list i 0 0 li in
       let kept : get_or (kept_values_of c) i 0 ≡ value k = get_or-map value list i 0 0 li in
       let inside : get_or c.parents.now k 0 < length (post p) = omega arith in

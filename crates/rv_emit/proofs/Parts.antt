@@ -37,4 +37,4 @@ module _ (c : Columns) (s : Places) (main : ℕ) where
 
   pub words_are : (p : Program) → AreAccepted c s.meant.now main p → AreLaidOf c s.at.now s.children.now → words p ≡ map word (head_of c s main ++ flat_map (piece_of c s main) (rows_of c))
   words_are p good laid =
-      words_good c.kinds.now c.parents.now c.places.now c.depths.now c.functions.now c.numbers.now c.ends.now c.frames.now s.meant.now p good.0 good.1 main good.2 s.at.now s.children.now laid
+      words_good c s.meant.now p good.0 good.1 main good.2 s.at.now s.children.now laid

@@ -32,9 +32,9 @@ accepted_by kinds parents spots depths functions numbers ends frames meant p mea
     (subst (λ (x : List Frame). IsAccepted kinds parents spots depths functions numbers ends x meant p meant_by number_by main) (sym r) good)))
 
 pub ready_by : (c : Columns) (meant at children : List ℕ) (main : ℕ) (p : Program) → AreAccepted c meant main p → AreLaidOf c at children → words_many_of c ≤ 262144
-    → IsReady c.kinds.now c.parents.now c.places.now c.depths.now c.functions.now c.numbers.now c.ends.now c.frames.now meant at children main
+    → IsReady c meant at children main
 ready_by c meant at children main p good laid few =
-    ready c.kinds.now c.parents.now c.places.now c.depths.now c.functions.now c.numbers.now c.ends.now c.frames.now meant p good.0 good.1 main good.2 at children laid few
+    ready c meant p good.0 good.1 main good.2 at children laid few
 
 -- how many bytes there are
 pub large_by : (w bytes n : ℕ) → 262144 < w → 4 * w ≡ bytes → n ≡ w → (1048576 < bytes) × (bytes ≡ 4 * n)

@@ -59,32 +59,32 @@ module _ (c : Columns) (meant : List ℕ) (main : ℕ) (p : Program) (good : Are
   few = params_few p good.2.shaped
 
   abbrev At : ℕ → ℕ
-  At k = place_in c.kinds.now c.parents.now c.places.now c.depths.now c.functions.now c.numbers.now c.ends.now c.frames.now k
+  At k = place_in c k
 
   abbrev K : ℕ → Known
-  K k = known_of (known_in c.kinds.now c.parents.now c.places.now c.depths.now c.functions.now c.numbers.now c.ends.now c.frames.now k)
+  K k = known_of (known_in c k)
 
   pub many : length c.kinds.now ≡ length (post p)
-  many = rows_many c.kinds.now c.parents.now c.places.now c.depths.now c.functions.now c.numbers.now c.ends.now c.frames.now p good.2.columns
+  many = rows_many c p good.2.columns
 
   pub few_rows : length c.kinds.now ≤ 33554432
   few_rows = let m = many in let f = good.2.columns.few in omega arith
 
   known_here : (k : ℕ) → k < length (post p) → IsKnown p k (K k)
-  known_here k lt = known_at c.kinds.now c.parents.now c.places.now c.depths.now c.functions.now c.numbers.now c.ends.now c.frames.now p good.2.columns ok w few
-      (there c.kinds.now c.parents.now c.places.now c.depths.now c.functions.now c.numbers.now c.ends.now c.frames.now meant p good.0 good.1 main good.2) good.2.typed k lt
+  known_here k lt = known_at c p good.2.columns ok w few
+      (there c meant p good.0 good.1 main good.2) good.2.typed k lt
 
   small : (k : ℕ) → k < length (post p) → size_by (K k) ≤ 64
   small k lt = sizes_small p ok w few
-      (there c.kinds.now c.parents.now c.places.now c.depths.now c.functions.now c.numbers.now c.ends.now c.frames.now meant p good.0 good.1 main good.2) good.2.typed k (K k) lt (known_here k lt)
+      (there c meant p good.0 good.1 main good.2) good.2.typed k (K k) lt (known_here k lt)
 
   next : (k : ℕ) → k < length (post p) → At (k + 1) ≡ At k + size_by (K k)
-  next k lt = place_next c.kinds.now c.parents.now c.places.now c.depths.now c.functions.now c.numbers.now c.ends.now c.frames.now p good.2.columns ok w few
-      (there c.kinds.now c.parents.now c.places.now c.depths.now c.functions.now c.numbers.now c.ends.now c.frames.now meant p good.0 good.1 main good.2) good.2.typed k lt
+  next k lt = place_next c p good.2.columns ok w few
+      (there c meant p good.0 good.1 main good.2) good.2.typed k lt
 
   first : At 0 ≡ length (head p)
-  first = place_first c.kinds.now c.parents.now c.places.now c.depths.now c.functions.now c.numbers.now c.ends.now c.frames.now p good.2.columns ok w few
-      (there c.kinds.now c.parents.now c.places.now c.depths.now c.functions.now c.numbers.now c.ends.now c.frames.now meant p good.0 good.1 main good.2) good.2.typed
+  first = place_first c p good.2.columns ok w few
+      (there c meant p good.0 good.1 main good.2) good.2.typed
 
   low : (k : ℕ) → k ≤ length (post p) → At k ≤ 25 + 64 * k
   low zero le = let e = first in let h = head_long p in let s = start_few p 0 few in omega arith
