@@ -9,7 +9,7 @@ use Rattle.source_meaning.specs.declared.kinds.Kind.{Kind}
 use Rattle.source_meaning.specs.declared.kinds.Kind.TheVariants.{Program as ProgramKind, IfElse, While}
 use Rattle.code_rules.specs.RowPieces.{piece_by, start_size}
 use Rattle.code_rules.specs.RowTables.{head_by}
-use Rattle.rv_select.specs.declared.columns.Columns.{Columns}
+use Rattle.rv_select.specs.Columns.{ProgramColumns}
 use Rattle.rv_select.specs.declared.referred.Places.{Places}
 use Rattle.rv_select.specs.Columns as columns
 use Rattle.rv_select.specs.Knowns.{known_of, start_of}
@@ -24,9 +24,9 @@ child_by IfElse own behind = behind
 child_by While own behind = min (own + 1) 4294967295
 child_by kind own behind = 0
 
-module _ (c : Columns) where
+module _ (c : ProgramColumns) where
   abbrev pub rows_of : List ℕ
-  rows_of = range_with_len 0 (length c.kinds.now)
+  rows_of = range_with_len 0 (length c.kinds)
 
   abbrev pub size_of : ℕ → ℕ
   size_of k = columns.size_in c k
@@ -48,7 +48,7 @@ module _ (c : Columns) where
 
   -- what each row keeps, by the first rows of subtrees: the last child of a row stands right before it
   abbrev pub child_of : List ℕ → ℕ → ℕ
-  child_of lows k = child_by (slice_index_or c.kinds.now k ProgramKind) (slice_index_or lows k 0) (slice_index_or lows (k - 1) 0)
+  child_of lows k = child_by (slice_index_or c.kinds k ProgramKind) (slice_index_or lows k 0) (slice_index_or lows (k - 1) 0)
 
   -- the kept children stand at their parents
   abbrev pub AreChildren : List ℕ → Type 0
@@ -71,7 +71,7 @@ module _ (c : Columns) where
     -- the instructions before the first row's
     abbrev pub head_of : List Instr
     head_of =
-        head_by (referred.at_in s.at.now (referred.first_in c.ends.now (slice_index_or c.functions.now main 0)) - start_size (start_of (columns.start_in c (slice_index_or c.functions.now main 0)))) (start_of (columns.start_in c 0))
+        head_by (referred.at_in s.at.now (referred.first_in c.ends (slice_index_or c.functions main 0)) - start_size (start_of (columns.start_in c (slice_index_or c.functions main 0)))) (start_of (columns.start_in c 0))
 
     -- the instructions of row k
     abbrev pub piece_of : ℕ → List Instr
