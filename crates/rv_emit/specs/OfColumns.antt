@@ -7,12 +7,9 @@ use Rattle.rv_isa.specs.declared.instructions.Instr.{Instr}
 use Rattle.source_meaning.specs.Ast.{Program}
 use Rattle.source_meaning.specs.declared.kinds.Kind.{Kind}
 use Rattle.source_meaning.specs.declared.kinds.Kind.TheVariants.{Program as ProgramKind, IfElse, While}
-use Rattle.code_rules.specs.RowPieces.{piece_by, start_size}
-use Rattle.code_rules.specs.RowTables.{head_by}
 use Rattle.rv_select.specs.Columns.{ProgramColumns}
 use Rattle.rv_select.specs.declared.referred.Places.{Places}
 use Rattle.rv_select.specs.Columns as columns
-use Rattle.rv_select.specs.Knowns.{known_of, start_of}
 use Rattle.rv_select.specs.Layout as layout
 use Rattle.rv_select.specs.Accepted as accepted
 use Rattle.rv_select.specs.Referred as referred
@@ -70,13 +67,11 @@ module _ (c : ProgramColumns) where
 
     -- the instructions before the first row's
     abbrev pub head_of : List Instr
-    head_of =
-        head_by (referred.at_in s.at.now (referred.first_in c.ends (slice_index_or c.functions main 0)) - start_size (start_of (columns.start_in c (slice_index_or c.functions main 0)))) (start_of (columns.start_in c 0))
+    head_of = referred.head_in c s.at.now s.children.now s.meant.now main
 
     -- the instructions of row k
     abbrev pub piece_of : ℕ → List Instr
-    piece_of k =
-        piece_by (known_of (columns.known_in c k)) (referred.spots_in c s.at.now s.children.now s.meant.now k)
+    piece_of = referred.piece_in c s.at.now s.children.now s.meant.now
 
     -- the words of rows, one behind the other
     abbrev pub row_words : List ℕ → List ℕ
