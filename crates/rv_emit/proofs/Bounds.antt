@@ -8,7 +8,7 @@ use Rattle.word_monoid.specs.Folds.{prefixes}
 use Rattle.word_monoid.proofs.Folds.{length-prefixes}
 use Rattle.word_monoid.specs.Instances.{count}
 use Rattle.rv_select.proofs.Laid.{prefix_first, prefix_step}
-use Rattle.rv_select.specs.declared.columns.Columns.{Columns}
+use Rattle.rv_select.specs.Columns.{ProgramColumns}
 use Rattle.rv_emit.specs.OfColumns.{rows_of, size_of, sums_of}
 
 -- a sum over numbers of 32 bits
@@ -34,8 +34,8 @@ value_low f n m low k = elim (cases_lt k n) [
   | inr past ↦ (let many = length-map-range_with_len f 0 n in let e = get_or_past (map f (range_with_len 0 n)) k 0 (omega arith) in omega arith)
 ]
 
-module _ (c : Columns) where
-  pub sums_small : length c.kinds.now ≤ 33554432 → (k : ℕ) → get_or (sums_of c) k 0 ≤ 144115188042301440
+module _ (c : ProgramColumns) where
+  pub sums_small : length c.kinds ≤ 33554432 → (k : ℕ) → get_or (sums_of c) k 0 ≤ 144115188042301440
   sums_small few k =
-      let many = length-map-range_with_len (size_of c) 0 (length c.kinds.now) in
-      sum_small (map (size_of c) (rows_of c)) (value_low (size_of c) (length c.kinds.now) 4294967295 (λ k l. omega arith)) (omega arith) k
+      let many = length-map-range_with_len (size_of c) 0 (length c.kinds) in
+      sum_small (map (size_of c) (rows_of c)) (value_low (size_of c) (length c.kinds) 4294967295 (λ k l. omega arith)) (omega arith) k

@@ -13,7 +13,7 @@ use Rattle.ast_rows.specs.NodeRows.{low_at, lows_of, parent_numbers}
 use Rattle.row_rules.specs.Steps.{parent_kind}
 use Rattle.row_rules.specs.Visible.{row_at}
 use Rattle.code_rules.specs.PieceRules.{is_operator}
-use Rattle.rv_select.specs.declared.columns.Columns.{Columns}
+use Rattle.rv_select.specs.Columns.{ProgramColumns}
 use Rattle.rv_select.specs.Layout as layout
 use Rattle.rv_select.proofs.OfProgram.{place_is, parent_is}
 use Rattle.rv_select.proofs.Laid.{prefix_first, prefix_step, rows_many, above_is, begin_low}
@@ -47,39 +47,39 @@ kept_kind Block place h = absurd (no_true h)
 kept_kind If place h = absurd (no_true h)
 kept_kind Eval place h = absurd (no_true h)
 
-module _ (c : Columns) (p : Program) (are : AreColumnsOf c p) (lows : List ℕ) (lows_are : lows ≡ lows_of (parent_numbers 0 (post p))) where
+module _ (c : ProgramColumns) (p : Program) (are : AreColumnsOf c p) (lows : List ℕ) (lows_are : lows ≡ lows_of (parent_numbers 0 (post p))) where
   abbrev begin : ℕ → ℕ
-  begin k = get_or (layout.begins c.kinds.now c.parents.now c.places.now c.depths.now c.functions.now c.numbers.now c.ends.now c.frames.now) k 0
+  begin k = get_or (layout.begins c) k 0
 
   abbrev list : List ℕ
-  list = layout.kept c.kinds.now c.parents.now c.places.now c.depths.now c.functions.now c.numbers.now c.ends.now c.frames.now
+  list = layout.kept c
 
   abbrev above : ℕ → Kind
-  above k = layout.above c.kinds.now c.parents.now c.places.now c.depths.now c.functions.now c.numbers.now c.ends.now c.frames.now k
+  above k = layout.above c k
 
   abbrev test : ℕ → Bool
-  test k = layout.is_kept (above k) (get_or c.places.now k 0)
+  test k = layout.is_kept (above k) (get_or c.places k 0)
 
   abbrev value : ℕ → ℕ
-  value k = layout.kept_by c.kinds.now c.parents.now c.places.now c.depths.now c.functions.now c.numbers.now c.ends.now c.frames.now (above k) k
+  value k = layout.kept_by c (above k) k
 
-  many : length c.kinds.now ≡ length (post p)
-  many = rows_many c.kinds.now c.parents.now c.places.now c.depths.now c.functions.now c.numbers.now c.ends.now c.frames.now p are
+  many : length c.kinds ≡ length (post p)
+  many = rows_many c p are
 
   -- where the expression begins that ends at a row, row by row
   abbrev step : ℕ → ℕ
-  step k = layout.begin_step c.kinds.now c.parents.now c.places.now c.depths.now c.functions.now c.numbers.now c.ends.now c.frames.now k
+  step k = layout.begin_step c k
 
   begin_first : begin 0 ≡ 0
-  begin_first = prefix_first greatest (map step (range_with_len 0 (length c.kinds.now)))
+  begin_first = prefix_first greatest (map step (range_with_len 0 (length c.kinds)))
 
   begin_next : (k : ℕ) → k < length (post p) → begin (k + 1) ≡ cond (is_operator (parent_kind p k)) (begin k) (k + 1)
   begin_next k lt =
-      let l : length (map step (range_with_len 0 (length c.kinds.now))) ≡ length c.kinds.now = length-map-range_with_len step 0 (length c.kinds.now) in
+      let l : length (map step (range_with_len 0 (length c.kinds))) ≡ length c.kinds = length-map-range_with_len step 0 (length c.kinds) in
       let e = many in
-      prefix_step greatest (map step (range_with_len 0 (length c.kinds.now))) k (omega arith)
-      ∙ ap (λ x. max (begin k) x) (get_or-map-range_with_len step 0 (length c.kinds.now) k k 0 (omega arith) (omega arith) ∙ ap (λ (kind : Kind). cond (is_operator kind) 0 (k + 1)) (above_is c.kinds.now c.parents.now c.places.now c.depths.now c.functions.now c.numbers.now c.ends.now c.frames.now p are k lt))
-      ∙ either (is_operator (parent_kind p k)) (begin_low c.kinds.now c.parents.now c.places.now c.depths.now c.functions.now c.numbers.now c.ends.now c.frames.now p are k (omega arith))
+      prefix_step greatest (map step (range_with_len 0 (length c.kinds))) k (omega arith)
+      ∙ ap (λ x. max (begin k) x) (get_or-map-range_with_len step 0 (length c.kinds) k k 0 (omega arith) (omega arith) ∙ ap (λ (kind : Kind). cond (is_operator kind) 0 (k + 1)) (above_is c p are k lt))
+      ∙ either (is_operator (parent_kind p k)) (begin_low c p are k (omega arith))
     where
       either : (b : Bool) → begin k ≤ k → max (begin k) (cond b 0 (k + 1)) ≡ cond b (begin k) (k + 1)
       either true le = omega arith
@@ -91,45 +91,45 @@ module _ (c : Columns) (p : Program) (are : AreColumnsOf c p) (lows : List ℕ) 
       ap (λ (l : List ℕ). get_or l k 0) lows_are ∙ get_or-map-range_with_len (low_at (parent_numbers 0 (post p))) 0 (length (parent_numbers 0 (post p))) k k 0 (omega arith) (omega arith)
 
   -- a kept child, as its parent keeps it
-  child_told : (k : ℕ) → k < length (post p) → test k ≡ true → get_or c.parents.now k 0 < length (post p) → child_of c lows (get_or c.parents.now k 0) ≡ value k
+  child_told : (k : ℕ) → k < length (post p) → test k ≡ true → get_or c.parents k 0 < length (post p) → child_of c lows (get_or c.parents k 0) ≡ value k
   child_told k lt h inside =
-      let q = get_or c.parents.now k 0 in
+      let q = get_or c.parents k 0 in
       let low = low_at (parent_numbers 0 (post p)) in
-      let parent : q ≡ k + (row_at p k).up = parent_is c.kinds.now c.parents.now c.places.now c.depths.now c.functions.now c.numbers.now c.ends.now c.frames.now p are k lt in
-      let kind : above k ≡ parent_kind p k = above_is c.kinds.now c.parents.now c.places.now c.depths.now c.functions.now c.numbers.now c.ends.now c.frames.now p are k lt in
-      let place : get_or c.places.now k 0 ≡ (row_at p k).place = place_is c.kinds.now c.parents.now c.places.now c.depths.now c.functions.now c.numbers.now c.ends.now c.frames.now p are k in
-      elim (kept_kind (above k) (get_or c.places.now k 0) h) [
+      let parent : q ≡ k + (row_at p k).up = parent_is c p are k lt in
+      let kind : above k ≡ parent_kind p k = above_is c p are k lt in
+      let place : get_or c.places k 0 ≡ (row_at p k).place = place_is c p are k in
+      elim (kept_kind (above k) (get_or c.places k 0) h) [
         | inl e ↦ (let t : low (k + (row_at p k).up - 1) ≡ k + 1 = second_told p begin begin_first begin_next k lt (sym kind ∙ e.0) (sym place ∙ e.1) in
             ap (λ (y : Kind). child_by y (get_or lows q 0) (get_or lows (q - 1) 0)) e.0
             ∙ low_read (q - 1) (omega arith)
             ∙ ap (λ (m : ℕ). low (m - 1)) parent
             ∙ t
-            ∙ sym (ap (λ (y : Kind). layout.kept_by c.kinds.now c.parents.now c.places.now c.depths.now c.functions.now c.numbers.now c.ends.now c.frames.now y k) e.0))
+            ∙ sym (ap (λ (y : Kind). layout.kept_by c y k) e.0))
         | inr e ↦ (let t : begin k ≡ low (k + (row_at p k).up) = start_told p begin begin_first begin_next k lt (sym kind ∙ e.0) (sym place ∙ e.1) in
             let r : get_or lows q 0 ≡ begin k = low_read q inside ∙ ap low parent ∙ sym t in
             let few = are.few in
-            let l = begin_low c.kinds.now c.parents.now c.places.now c.depths.now c.functions.now c.numbers.now c.ends.now c.frames.now p are k (omega arith) in
+            let l = begin_low c p are k (omega arith) in
             let small : min (get_or lows q 0 + 1) 4294967295 ≡ begin k + 1 = omega arith in
             ap (λ (y : Kind). child_by y (get_or lows q 0) (get_or lows (q - 1) 0)) e.0
             ∙ small
-            ∙ sym (ap (λ (y : Kind). layout.kept_by c.kinds.now c.parents.now c.places.now c.depths.now c.functions.now c.numbers.now c.ends.now c.frames.now y k) e.0))
+            ∙ sym (ap (λ (y : Kind). layout.kept_by c y k) e.0))
       ]
 
   -- all kept children stand at their parents
   pub children_told : (v : List ℕ) → v ≡ map (child_of c lows) (rows_of c) → AreChildren c v
   children_told v is i lt =
-      let n = lengths c.kinds.now c.parents.now c.places.now c.depths.now c.functions.now c.numbers.now c.ends.now c.frames.now p are in
+      let n = lengths c p are in
       let e = many in
       let li : i < length list = omega arith in
-      let h = passing test 0 (length c.kinds.now) i li in
+      let h = passing test 0 (length c.kinds) i li in
       let k = get_or list i 0 in
       let high = h.1 in
-      let f = (fit c.kinds.now c.parents.now c.places.now c.depths.now c.functions.now c.numbers.now c.ends.now c.frames.now p are i lt).0 in
-      let at : get_or (kept_places_of c) i 0 ≡ get_or c.parents.now k 0 = get_or-map (λ (m : ℕ). get_or c.parents.now m 0) list i 0 0 li in
+      let f = (fit c p are i lt).0 in
+      let at : get_or (kept_places_of c) i 0 ≡ get_or c.parents k 0 = get_or-map (λ (m : ℕ). get_or c.parents m 0) list i 0 0 li in
       let kept : get_or (kept_values_of c) i 0 ≡ value k = get_or-map value list i 0 0 li in
-      let inside : get_or c.parents.now k 0 < length (post p) = omega arith in
+      let inside : get_or c.parents k 0 < length (post p) = omega arith in
       ap (λ (m : ℕ). get_or v m 0) at
-      ∙ ap (λ (l : List ℕ). get_or l (get_or c.parents.now k 0) 0) is
-      ∙ get_or-map-range_with_len (child_of c lows) 0 (length c.kinds.now) (get_or c.parents.now k 0) (get_or c.parents.now k 0) 0 (omega arith) (omega arith)
+      ∙ ap (λ (l : List ℕ). get_or l (get_or c.parents k 0) 0) is
+      ∙ get_or-map-range_with_len (child_of c lows) 0 (length c.kinds) (get_or c.parents k 0) (get_or c.parents k 0) 0 (omega arith) (omega arith)
       ∙ child_told k (omega arith) h.2 inside
       ∙ sym kept

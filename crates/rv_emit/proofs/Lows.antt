@@ -4,7 +4,7 @@ use Rattle.std.proofs.Common.{◌≡◌, ℕ, suc, ◌+◌, ◌-◌, ◌<◌, �
 use Rattle.std.proofs.lemmas.Bool.{cases_lt}
 use Rattle.std.proofs.lemmas.List.FromFn.{get_or-map-range_with_len}
 use Rattle.source_meaning.specs.declared.kinds.Kind.{Kind}
-use Rattle.source_meaning.specs.declared.kinds.Kind.TheVariants.{Program as ProgramKind, Function as FunctionKind, Param as ParamKind, Block, IfElse, While, Call}
+use Rattle.source_meaning.specs.declared.kinds.Kind.TheVariants.{Program as ProgramKind, Function as FunctionKind, Block, IfElse, While, Call}
 use Rattle.source_meaning.specs.Ast.{Expr, num, truth, name, call, unary, binary, and, or, assign, Args, no_args, arg, Stmt, var, if_only, if_else, stray_else, while, return, block, eval, Stmts, no_stmts, stmt, Param, Program}
 use Rattle.source_meaning.specs.Rows.{Row, Node, node, Nodes, last, next, nodes_rows, expr_node, args_nodes, stmt_node, stmts_nodes, params_nodes, one, functions_nodes, post}
 use Rattle.ast_rows.specs.NodeRows.{low_at, parent_numbers}

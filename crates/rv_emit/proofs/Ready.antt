@@ -1,19 +1,17 @@
 -- The columns of an accepted program are what passes ask of them.
-use Rattle.std.proofs.Common.{◌≡◌, ℕ, ◌*◌, ◌<◌, ◌≤◌, List, map, Option, sym, subst, ◌∙◌, arith}
-use Rattle.source_meaning.specs.declared.kinds.Kind.{Kind}
+use Rattle.std.proofs.Common.{◌≡◌, ℕ, ◌*◌, ◌<◌, ◌≤◌, List, map, sym, subst, ◌∙◌, arith}
 use Rattle.source_meaning.specs.Ast.{Program}
 use Rattle.source_meaning.specs.Rows.{post}
 use Rattle.ast_rows.specs.NodeRows.{lows_of, parent_numbers}
 use Rattle.code_rules.specs.Pieces.{places}
-use Rattle.rv_select.specs.declared.columns.Columns.{Columns}
-use Rattle.rv_select.specs.declared.known.Frame.{Frame}
+use Rattle.rv_select.specs.Columns.{ProgramColumns}
 use Rattle.rv_select.proofs.InReach.{ready}
-use Rattle.rv_select.specs.Accepted.{IsAccepted, IsReady}
+use Rattle.rv_select.specs.Accepted.{IsReady}
 use Rattle.rv_emit.specs.OfColumns.{rows_of, child_of, words_many_of, AreAccepted, AreLaidOf}
 use Rattle.rv_emit.proofs.Children.{children_told}
 use Rattle.rv_emit.proofs.Sized.{places_are}
 
-module _ (c : Columns) (meant : List ℕ) (main : ℕ) (p : Program) (good : AreAccepted c meant main p) where
+module _ (c : ProgramColumns) (meant : List ℕ) (main : ℕ) (p : Program) (good : AreAccepted c meant main p) where
   -- the places of the program's pieces are the column of places
   pub laid_by : (at lows children : List ℕ) → at ≡ places p → lows ≡ lows_of (parent_numbers 0 (post p)) → children ≡ map (child_of c lows) (rows_of c) → AreLaidOf c at children
   laid_by at lows children is low put = record {
@@ -22,19 +20,13 @@ module _ (c : Columns) (meant : List ℕ) (main : ℕ) (p : Program) (good : Are
   }
 
 -- columns that are lent by lists of these values
-pub accepted_by : (kinds : List Kind) (parents spots depths functions numbers ends : List ℕ) (frames : List Frame) (meant : List ℕ) (p : Program) (meant_by : ℕ → Option ℕ) (number_by : ℕ → ℕ) (main : ℕ)
-    → (fs ns es : List ℕ) (rs : List Frame) → fs ≡ functions → ns ≡ numbers → es ≡ ends → rs ≡ frames
-    → IsAccepted kinds parents spots depths functions numbers ends frames meant p meant_by number_by main → IsAccepted kinds parents spots depths fs ns es rs meant p meant_by number_by main
-accepted_by kinds parents spots depths functions numbers ends frames meant p meant_by number_by main fs ns es rs f n e r good =
-    subst (λ (x : List ℕ). IsAccepted kinds parents spots depths x ns es rs meant p meant_by number_by main) (sym f)
-    (subst (λ (x : List ℕ). IsAccepted kinds parents spots depths functions x es rs meant p meant_by number_by main) (sym n)
-    (subst (λ (x : List ℕ). IsAccepted kinds parents spots depths functions numbers x rs meant p meant_by number_by main) (sym e)
-    (subst (λ (x : List Frame). IsAccepted kinds parents spots depths functions numbers ends x meant p meant_by number_by main) (sym r) good)))
+pub accepted_by : (c d : ProgramColumns) (meant : List ℕ) (main : ℕ) (p : Program) → c ≡ d → AreAccepted c meant main p → AreAccepted d meant main p
+accepted_by c d meant main p same good = subst (λ (x : ProgramColumns). AreAccepted x meant main p) same good
 
-pub ready_by : (c : Columns) (meant at children : List ℕ) (main : ℕ) (p : Program) → AreAccepted c meant main p → AreLaidOf c at children → words_many_of c ≤ 262144
-    → IsReady c.kinds.now c.parents.now c.places.now c.depths.now c.functions.now c.numbers.now c.ends.now c.frames.now meant at children main
+pub ready_by : (c : ProgramColumns) (meant at children : List ℕ) (main : ℕ) (p : Program) → AreAccepted c meant main p → AreLaidOf c at children → words_many_of c ≤ 262144
+    → IsReady c meant at children main
 ready_by c meant at children main p good laid few =
-    ready c.kinds.now c.parents.now c.places.now c.depths.now c.functions.now c.numbers.now c.ends.now c.frames.now meant p good.0 good.1 main good.2 at children laid few
+    ready c meant p good.0 good.1 main good.2 at children laid few
 
 -- how many bytes there are
 pub large_by : (w bytes n : ℕ) → 262144 < w → 4 * w ≡ bytes → n ≡ w → (1048576 < bytes) × (bytes ≡ 4 * n)

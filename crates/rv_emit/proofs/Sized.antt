@@ -20,7 +20,7 @@ use Rattle.code_rules.proofs.Sized.{piece_sized}
 use Rattle.code_rules.proofs.Small.{FewParams, params_few, start_few, sizes_small}
 use Rattle.code_rules.proofs.Totals.{head_long, words_long}
 use Rattle.code_rules.proofs.Whole.{program_whole}
-use Rattle.rv_select.specs.declared.columns.Columns.{Columns}
+use Rattle.rv_select.specs.Columns.{ProgramColumns}
 use Rattle.rv_select.specs.Columns.{known_in}
 use Rattle.rv_select.specs.Knowns.{known_of}
 use Rattle.rv_select.specs.Layout.{place_in}
@@ -48,7 +48,7 @@ firsts_by at a (n ∷ ns) step =
     ap at (sym u) ∙ step (suc k) (omega arith) ∙ ap (λ m. at m + get_or ns k 0) v) in
     λ i. at a ∷ (ap (λ m. firsts m ns) next ∙ rest) i
 
-module _ (c : Columns) (meant : List ℕ) (main : ℕ) (p : Program) (good : AreAccepted c meant main p) where
+module _ (c : ProgramColumns) (meant : List ℕ) (main : ℕ) (p : Program) (good : AreAccepted c meant main p) where
   ok : IsNamedProgram p
   ok = program_named p good.2.shaped
 
@@ -59,32 +59,32 @@ module _ (c : Columns) (meant : List ℕ) (main : ℕ) (p : Program) (good : Are
   few = params_few p good.2.shaped
 
   abbrev At : ℕ → ℕ
-  At k = place_in c.kinds.now c.parents.now c.places.now c.depths.now c.functions.now c.numbers.now c.ends.now c.frames.now k
+  At k = place_in c k
 
   abbrev K : ℕ → Known
-  K k = known_of (known_in c.kinds.now c.parents.now c.places.now c.depths.now c.functions.now c.numbers.now c.ends.now c.frames.now k)
+  K k = known_of (known_in c k)
 
-  pub many : length c.kinds.now ≡ length (post p)
-  many = rows_many c.kinds.now c.parents.now c.places.now c.depths.now c.functions.now c.numbers.now c.ends.now c.frames.now p good.2.columns
+  pub many : length c.kinds ≡ length (post p)
+  many = rows_many c p good.2.columns
 
-  pub few_rows : length c.kinds.now ≤ 33554432
+  pub few_rows : length c.kinds ≤ 33554432
   few_rows = let m = many in let f = good.2.columns.few in omega arith
 
   known_here : (k : ℕ) → k < length (post p) → IsKnown p k (K k)
-  known_here k lt = known_at c.kinds.now c.parents.now c.places.now c.depths.now c.functions.now c.numbers.now c.ends.now c.frames.now p good.2.columns ok w few
-      (there c.kinds.now c.parents.now c.places.now c.depths.now c.functions.now c.numbers.now c.ends.now c.frames.now meant p good.0 good.1 main good.2) good.2.typed k lt
+  known_here k lt = known_at c p good.2.columns ok w few
+      (there c meant p good.0 good.1 main good.2) good.2.typed k lt
 
   small : (k : ℕ) → k < length (post p) → size_by (K k) ≤ 64
   small k lt = sizes_small p ok w few
-      (there c.kinds.now c.parents.now c.places.now c.depths.now c.functions.now c.numbers.now c.ends.now c.frames.now meant p good.0 good.1 main good.2) good.2.typed k (K k) lt (known_here k lt)
+      (there c meant p good.0 good.1 main good.2) good.2.typed k (K k) lt (known_here k lt)
 
   next : (k : ℕ) → k < length (post p) → At (k + 1) ≡ At k + size_by (K k)
-  next k lt = place_next c.kinds.now c.parents.now c.places.now c.depths.now c.functions.now c.numbers.now c.ends.now c.frames.now p good.2.columns ok w few
-      (there c.kinds.now c.parents.now c.places.now c.depths.now c.functions.now c.numbers.now c.ends.now c.frames.now meant p good.0 good.1 main good.2) good.2.typed k lt
+  next k lt = place_next c p good.2.columns ok w few
+      (there c meant p good.0 good.1 main good.2) good.2.typed k lt
 
   first : At 0 ≡ length (head p)
-  first = place_first c.kinds.now c.parents.now c.places.now c.depths.now c.functions.now c.numbers.now c.ends.now c.frames.now p good.2.columns ok w few
-      (there c.kinds.now c.parents.now c.places.now c.depths.now c.functions.now c.numbers.now c.ends.now c.frames.now meant p good.0 good.1 main good.2) good.2.typed
+  first = place_first c p good.2.columns ok w few
+      (there c meant p good.0 good.1 main good.2) good.2.typed
 
   low : (k : ℕ) → k ≤ length (post p) → At k ≤ 25 + 64 * k
   low zero le = let e = first in let h = head_long p in let s = start_few p 0 few in omega arith
@@ -119,11 +119,11 @@ module _ (c : Columns) (meant : List ℕ) (main : ℕ) (p : Program) (good : Are
   sizes_are =
       let m = many in
       let n = sizes_many in
-      let l = length-map-range_with_len (size_of c) 0 (length c.kinds.now) in
+      let l = length-map-range_with_len (size_of c) 0 (length c.kinds) in
       same_list (map (size_of c) (rows_of c)) (sizes p) (omega arith) (λ k lt.
       let s = small k (omega arith) in
       let h = size_here k (omega arith) in
-      let e : get_or (map (size_of c) (rows_of c)) k 0 ≡ size_of c k = get_or-map-range_with_len (size_of c) 0 (length c.kinds.now) k k 0 (omega arith) (omega arith) in
+      let e : get_or (map (size_of c) (rows_of c)) k 0 ≡ size_of c k = get_or-map-range_with_len (size_of c) 0 (length c.kinds) k k 0 (omega arith) (omega arith) in
       omega arith)
 
   -- all places fit in 32 bits
@@ -138,7 +138,7 @@ module _ (c : Columns) (meant : List ℕ) (main : ℕ) (p : Program) (good : Are
       let m = many in
       let n = sizes_many in
       let b : place_of 0 ≡ length (head p) = fits 0 (omega arith) ∙ first in
-      let z : length (sizes p) ≡ length c.kinds.now = omega arith in
+      let z : length (sizes p) ≡ length c.kinds = omega arith in
       sym (ap (λ a. firsts a (sizes p)) (sym b)
       ∙ firsts_by place_of 0 (sizes p) (λ k lt.
       let l : k < length (post p) = omega arith in
@@ -164,11 +164,11 @@ module _ (c : Columns) (meant : List ℕ) (main : ℕ) (p : Program) (good : Are
   last_place =
       let m = many in
       let pos = some_row p in
-      let long : length (places p) ≡ length c.kinds.now = ap (λ (l : List ℕ). length l) (sym places_are) ∙ length-map-range_with_len place_of 0 (length c.kinds.now) in
+      let long : length (places p) ≡ length c.kinds = ap (λ (l : List ℕ). length l) (sym places_are) ∙ length-map-range_with_len place_of 0 (length c.kinds) in
       let z : length (places p) - 1 ≡ length (post p) - 1 = omega arith in
       ap (λ k. get_or (places p) k 0) z
       ∙ ap (λ (l : List ℕ). get_or l (length (post p) - 1) 0) (sym places_are)
-      ∙ get_or-map-range_with_len place_of 0 (length c.kinds.now) (length (post p) - 1) (length (post p) - 1) 0 (omega arith) (omega arith)
+      ∙ get_or-map-range_with_len place_of 0 (length c.kinds) (length (post p) - 1) (length (post p) - 1) 0 (omega arith) (omega arith)
       ∙ fits (length (post p) - 1) (omega arith)
       ∙ last
       ∙ ap At (sym m)

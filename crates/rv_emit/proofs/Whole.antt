@@ -26,6 +26,7 @@ use Rattle.code_rules.proofs.ByRows.{sites_many}
 use Rattle.code_rules.proofs.Whole.{program_whole}
 use Rattle.rv_select.specs.declared.known.Frame.{Frame}
 use Rattle.rv_select.specs.Knowns.{frame_of}
+use Rattle.rv_select.specs.Columns.{ProgramColumns}
 use Rattle.rv_select.specs.Accepted.{IsAccepted}
 use Rattle.rv_select.specs.Functions.{function_numbers, function_rows}
 use Rattle.rv_select.proofs.Functions.{numbers_are, ends_are, ends_many}
@@ -157,7 +158,10 @@ module _ (rows : List Row) (names : NameRows) (ds : List ℕ) (fs : List FrameRo
       ∙ get_or-map (λ (x : ℕ). row_by (row_of_word x)) words k 4294967295 0 (omega arith)
       ∙ ap row_by (word_at k)
 
-  pub accepted_of : IsAccepted kinds parents places ds functions numbers ends frames meant p meant_by number_by names.main
+  abbrev made_columns : ProgramColumns
+  made_columns = record { kinds = kinds; parents = parents; places = places; depths = ds; functions = functions; numbers = numbers; ends = ends; frames = frames }
+
+  pub accepted_of : IsAccepted made_columns meant p meant_by number_by names.main
   accepted_of = record {
     columns = record {
       kinds_are = kinds_there;
@@ -180,5 +184,5 @@ module _ (rows : List Row) (names : NameRows) (ds : List ℕ) (fs : List FrameRo
     meant_is = meant_told;
   }
 
-  pub accepted_main : (main : ℕ) → main ≡ names.main → IsAccepted kinds parents places ds functions numbers ends frames meant p meant_by number_by main
-  accepted_main main e = subst (λ (n : ℕ). IsAccepted kinds parents places ds functions numbers ends frames meant p meant_by number_by n) (sym e) accepted_of
+  pub accepted_main : (main : ℕ) → main ≡ names.main → IsAccepted made_columns meant p meant_by number_by main
+  accepted_main main e = subst (λ (n : ℕ). IsAccepted made_columns meant p meant_by number_by n) (sym e) accepted_of

@@ -19,8 +19,8 @@ fn child(kind: Kind, own: u32, behind: u32) -> u32
 }
 
 // As what row k keeps a child.
-fn child_at(columns: Columns<'_>, lows: &[u32], k: u32) -> u32
-    ensures { result ≡ child_of columns.entry lows.now k }
+fn child_at(columns: &Columns<'_>, lows: &[u32], k: u32) -> u32
+    ensures { result ≡ child_of columns.now lows.now k }
 {
     child(
         kind(columns.kinds, k),
@@ -35,11 +35,11 @@ pub(crate) fn kept_children(
     columns: &Columns<'_>,
     lows: &[u32],
 ) -> Result<Vec<u32>, AllocError>
-    requires rows { length columns.now.kinds.now ≤ 2 ^ 25 }
+    requires rows { length columns.now.kinds ≤ 2 ^ 25 }
     ensures { IfOk result (λ v. v.items ≡ map (child_of columns.now lows.now) (rows_of columns.now)) }
 {
     let at = |k: u32| -> u32
         ensures { result ≡ child_of columns.entry.now lows.entry.now k }
-    { child_at(*columns, lows, k) };
+    { child_at(columns, lows, k) };
     crew.tabulate(columns.kinds.len() as u32, &at)
 }

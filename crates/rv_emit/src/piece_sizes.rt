@@ -13,12 +13,12 @@ use std::alloc::AllocError;
 
 // How many words each row's piece has, by columns.
 fn row_sizes(crew: &impl Passes, columns: &Columns<'_>) -> Result<Vec<u32>, AllocError>
-    requires rows { length columns.now.kinds.now ≤ 2 ^ 25 }
+    requires rows { length columns.now.kinds ≤ 2 ^ 25 }
     ensures { IfOk result (λ v. v.items ≡ map (size_of columns.now) (rows_of columns.now)) }
 {
     let at = |k: u32| -> u32
         ensures { result ≡ size_of columns.entry.now k }
-    { row_size(*columns, k) };
+    { row_size(columns, k) };
     crew.tabulate(columns.kinds.len() as u32, &at)
 }
 

@@ -8,7 +8,7 @@ ghost use Rattle.rv_emit.specs.OfColumns.{rows_of, row_words, part_of, AreReady,
 
 use chunk_seats::Gate;
 use par_passes::Passes;
-use rv_select::{Columns, Places, put_program, put_program_head, put_rows};
+use rv_select::{Columns, Places, put_program, put_program_head, put_rows, row_count};
 use std::alloc::{AllocError, Global};
 
 // The first row of a chunk; the end where the chunk begins behind it.
@@ -38,10 +38,10 @@ fn put_chunk(
     requires ready { AreReady columns.now places.now main }
     ensures { OnOk result (out.new.items ≡ out.old.items ++ row_words columns.now places.now main (chunk_of size (rows_of columns.now) n)) }
 {
-    let len = columns.kinds.len() as u32;
+    let len = row_count(columns);
     let from = chunk_start(len, size, n);
     let to = from + (len - from).min(size);
-    put_rows(out, *columns, *places, from, to)
+    put_rows(out, columns, *places, from, to)
 }
 
 // The words of a part: those before the first row's, or those of the rows of a chunk.
@@ -57,7 +57,7 @@ fn put_part(
     ensures { OnOk result (out.new.items ≡ out.old.items ++ part_of columns.now places.now main size n) }
 {
     if n == 0 {
-        put_program_head(out, *columns, *places, main)
+        put_program_head(out, columns, *places, main)
     } else {
         put_chunk(out, columns, places, main, size, n - 1)
     }
@@ -90,9 +90,9 @@ fn write_parts(
     capacity: usize,
 ) -> Result<Vec<u32>, AllocError>
     requires size { (0 < size) × (size ≤ 65536) }
-    requires rows { length columns.now.kinds.now ≤ 2 ^ 25 }
+    requires rows { length columns.now.kinds ≤ 2 ^ 25 }
     requires ready { AreReady columns.now places.now main }
-    ensures { IfOk result (λ v. v.items ≡ flat_map (part_of columns.now places.now main size) (range_with_len 0 (chunk_count size (length columns.now.kinds.now) + 1))) }
+    ensures { IfOk result (λ v. v.items ≡ flat_map (part_of columns.now places.now main size) (range_with_len 0 (chunk_count size (length columns.now.kinds) + 1))) }
 {
     let alloc = crew.alloc();
     let make = |n: u64| -> Result<Vec<u32>, AllocError>
@@ -113,7 +113,7 @@ fn write_by_chunks(
     capacity: usize,
 ) -> Result<Vec<u32>, AllocError>
     requires size { (0 < size) × (size ≤ 65536) }
-    requires rows { length columns.now.kinds.now ≤ 2 ^ 25 }
+    requires rows { length columns.now.kinds ≤ 2 ^ 25 }
     requires ready { AreReady columns.now places.now main }
     ensures { IfOk result (λ v. (p : Source) → AreAccepted columns.now places.now.meant.now main p → AreLaidOf columns.now places.now.at.now places.now.children.now → v.items ≡ words_of p) }
 {
@@ -143,7 +143,7 @@ fn write_in_turn(
 {
     draw_all(crew, count_chunks(columns.kinds.len() as u32, size));
     let mut out = Vec::with_capacity(crew.alloc(), capacity)?;
-    put_program(&mut out, *columns, *places, main)?;
+    put_program(&mut out, columns, *places, main)?;
     Ok(out)
 }
 
@@ -155,7 +155,7 @@ pub(crate) fn write(
     main: u32,
     capacity: usize,
 ) -> Result<Vec<u32>, AllocError>
-    requires rows { length columns.now.kinds.now ≤ 2 ^ 25 }
+    requires rows { length columns.now.kinds ≤ 2 ^ 25 }
     requires ready { AreReady columns.now places.now main }
     ensures { IfOk result (λ v. (p : Source) → AreAccepted columns.now places.now.meant.now main p → AreLaidOf columns.now places.now.at.now places.now.children.now → v.items ≡ words_of p) }
 {

@@ -20,11 +20,11 @@ sums-requires-clause-short g c κs within = λ k.
     let p = c.requires.program.0 in
     subst (λ (l : List ℕ). get_or l k 0 ≤ 64) (sym c.requires.program.2) (sizes_low c.row_columns-columns.result code.meant.items code.main p (c.row_columns-columns.ensures p c.requires.program.1) k)
 
-pub overflow_cast-columns : goal.overflow_cast-columns
-overflow_cast-columns g c =
+pub row_count-requires : goal.row_count-requires
+row_count-requires g c =
     let code = c.args.code.now in
     let p = c.requires.program.0 in
-    omega (arith, few_rows c.row_columns-columns.result code.meant.items code.main p (c.row_columns-columns.ensures p c.requires.program.1))
+    few_rows c.row_columns-columns.result code.meant.items code.main p (c.row_columns-columns.ensures p c.requires.program.1)
 
 pub row_places-requires-clause-sums : goal.row_places-requires-clause-sums
 row_places-requires-clause-sums g c κs within = λ k.
@@ -45,5 +45,5 @@ returns g c =
     let head : c.head_size.result ≡ head_size_of columns = c.head_size.ensures.value in
     if_ok c.row_places.result c.row_places.ensures (λ v is p good.
     is
-    ∙ (λ i. map (λ (k : ℕ). min (head i + get_or (same i) k 0) 4294967295) (range_with_len 0 (length columns.kinds.now)))
+    ∙ (λ i. map (λ (k : ℕ). min (head i + get_or (same i) k 0) 4294967295) (range_with_len 0 (c.row_count.ensures i)))
     ∙ places_are columns code.meant.items code.main p (c.row_columns-columns.ensures p good))
