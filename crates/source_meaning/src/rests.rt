@@ -145,6 +145,8 @@ pub(crate) enum Rest<'a> {
     Turn(Loop<'a>),
     /// Computes the condition of a loop again.
     Again(Loop<'a>),
+    /// Runs a statement.
+    Run(Placed<'a>),
     /// Returns the value from the call.
     Return,
     /// Goes on in the call that was open before.

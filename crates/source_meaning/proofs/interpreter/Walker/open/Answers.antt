@@ -7,8 +7,8 @@ use Rattle.source_meaning.proofs.Numbered.{numbered_so}
 use Rattle.source_meaning.proofs.Steps.{open_goes}
 use Rattle.source_meaning.proofs.interpreter.Walker.open.Goals as goal
 
-pub invariant_of-run : goal.invariant_of-run
-invariant_of-run c =
+pub invariant_of-enter : goal.invariant_of-enter
+invariant_of-enter c =
     let fits = rw c.in-Some.is at c.left_behind.ensures in
     record { numbered = (numbered_so _ (length c.args.f.now.function.now.params.items) (stmt_of c.args.f.now.function.now.body) (c.deref-2.ensures.value ∙ c.args.f.now.numbered fits.3)).0 }
 
@@ -27,4 +27,4 @@ returns c =
     (c.in_ok-new.ensures.ok ∙ c.replace-outer.ensures.value)
     c.in_ok-push.ensures
     c.requires.light
-    c.run.ensures
+    c.enter.ensures
