@@ -1,7 +1,7 @@
 -- What each kind of node leaves to do.
-use Rattle.std.proofs.Common.{◌≡◌, ℕ, zero, suc, ◌+◌, ◌-◌, ◌≤◌, List, [], ◌∷◌, ◌++◌, Option, Some, None, option_map, Result, Ok, Bor, slice_set, replicate, length, map, nat_lt, false, refl, sym, ap, subst, ◌∙◌, arith}
+use Rattle.std.proofs.Common.{◌≡◌, ℕ, zero, suc, ◌+◌, ◌-◌, ◌≤◌, List, [], ◌∷◌, ◌++◌, Option, Some, None, option_map, Result, Bor, slice_set, replicate, length, map, nat_lt, false, refl, sym, ap, subst, ◌∙◌, arith}
 use Rattle.std.proofs.lemmas.List.{append_assoc, append-nil}
-use Rattle.std.specs.Global.{Box, Vec}
+use Rattle.std.specs.Global.{Vec}
 use Rattle.source_meaning.specs.Ast.{Expr as ExprTree, call, unary, binary, and, or, assign, Args as ArgsTree, no_args, arg, Stmt as StmtTree, var, if_only, if_else, while, return, block, eval, no_stmts, stmt, Function as FunctionTree, Program}
 use Rattle.source_meaning.specs.Operators.{unary_value, binary_value}
 use Rattle.source_meaning.specs.Scope.{Scope, function_of, behind, inner, variables_in, body_scope, no_scope}
@@ -11,7 +11,7 @@ use Rattle.source_meaning.specs.Trees.{expr_of, args_of, stmt_of, stmts_of}
 use Rattle.source_meaning.specs.Numbering.{next_in}
 use Rattle.source_meaning.specs.Running.{named, name_of, variable_named, scope_with, stored_numbered}
 use Rattle.source_meaning.specs.Resuming.{Opened, opened, with_table, stacked, onwards, turned, resume, leave, world_in, run_in, run_all_in, IsChosen, condition_of, body_of}
-use Rattle.source_meaning.specs.Weights.{expr_weight, stmt_weight, stmts_weight, args_weight, turns_weight, heaviest, call_weight, rests_weight}
+use Rattle.source_meaning.specs.Weights.{expr_weight, stmt_weight, stmts_weight, turns_weight, heaviest, call_weight, rests_weight}
 use Rattle.source_meaning.specs.Walking.{Follows, HasValue, Leaves, Leads, Puts, Gives, EvaluatesThen, Evaluates, Starts, Computes, Opens, Begins, Enters, Runs, RunsAll, Resumes, Departs, program_in, with_value, settled, evaluated_then, ran, weigh, weigh_rests, weight_of_call}
 use Rattle.source_meaning.specs.declared.trees.Expr.{Expr}
 use Rattle.source_meaning.specs.declared.trees.Args.{Args}
@@ -21,6 +21,7 @@ use Rattle.source_meaning.specs.declared.kinds.UnaryOp.{UnaryOp}
 use Rattle.source_meaning.specs.declared.kinds.BinaryOp.{BinaryOp}
 use Rattle.source_meaning.specs.declared.kinds.ValueType.{ValueType}
 use Rattle.source_meaning.specs.declared.names.Named.{Named}
+use Rattle.source_meaning.specs.declared.names.Names.{Names}
 use Rattle.source_meaning.specs.declared.rests.OpenCall.{OpenCall}
 use Rattle.source_meaning.specs.declared.rests.Placed.{Placed}
 use Rattle.source_meaning.specs.declared.rests.Branches.{Branches}
@@ -293,12 +294,12 @@ module _ (w : Walker) (y : Result (Unit {0}) Stop) (v : Walker) where
   }
 
   -- a call of a function whose frame fits
-  pub open_goes : (f : FunctionTree) (args : List ℕ) (inside : OpenCall) (kept : Box OpenCall) (r : Rests) (n : ℕ) →
+  pub open_goes : (f : FunctionTree) (args : List ℕ) (inside : OpenCall) (kept : OpenCall) (r : Rests) (n : ℕ) (s : Names) →
       w.call.calls ≡ suc inside.calls → nat_lt w.call.left (frame f).bytes ≡ false → inside.left ≡ w.call.left - (frame f).bytes →
       inside.table.items ≡ args ++ replicate (variables_in f.body) 0 → named inside.names ≡ map name_of (body_scope f).variables → n ≡ length f.params →
-      kept.value ≡ w.call → stacked r ≡ Caller kept ∷ stacked w.rests → ((calls : ℕ) → stmt_weight calls w.turns f.body ≤ heaviest calls w.turns w.functions.now) →
-      Enters (record w { call = inside; rests = r }) n f.body y v → Opens w f args y v
-  open_goes f args inside kept r n some fits left filled names count same is light h = record {
+      kept ≡ w.call → stacked r ≡ Caller kept ∷ stacked w.rests → ((calls : ℕ) → stmt_weight calls w.turns f.body ≤ heaviest calls w.turns w.functions.now) →
+      Enters (record w { call = inside; rests = r; spare = s }) n f.body y v → Opens w f args y v
+  open_goes f args inside kept r n s some fits left filled names count same is light h = record {
     went = went_as _ _ _ _ y v h.went
         (ap (λ z. with_value w (returned z w.call.table.items)) (call_is (program_in w) w.turns w.call.calls inside.calls w.call.left f args inside.left inside.table.items some fits left filled)
         ∙ enters (run U (body_scope f) inside.table.items f.body)

@@ -94,10 +94,10 @@ module _ (p : Program) (turns : ℕ) where
     resume (Again l ∷ k) o x = onwards (loop (condition_of o l) (body_of o l) l.turns o.table) (λ r t. elim r [ None ↦ resume k (with_table o t) 0 | Some v ↦ leave k v ])
     resume (RunOne q ∷ k) o x = onwards (run_in o (next_in q.numbering.now) (stmt_of q.statement.now)) (λ r t. elim r [ None ↦ resume k (with_table o t) 0 | Some v ↦ leave k v ])
     resume (Return ∷ k) o x = leave k x
-    resume (Caller c ∷ k) o x = resume k (opened c.value) x
+    resume (Caller c ∷ k) o x = resume k (opened c) x
 
     -- returns a value from the open call
     pub leave : List Rest → ℕ → Outcome
     leave [] x = Ended x
-    leave (Caller c ∷ k) x = resume k (opened c.value) x
+    leave (Caller c ∷ k) x = resume k (opened c) x
     leave (r ∷ k) x = leave k x

@@ -78,7 +78,7 @@ module _ (fs : List Callee) (turns : ℕ) where
 
   -- how many calls may be opened behind a step, where it is done with n
   abbrev pub calls_behind : Rest → ℕ → ℕ
-  calls_behind (Caller c) n = c.value.calls
+  calls_behind (Caller c) n = c.calls
   calls_behind r n = n
 
   -- the steps that are left, where at most n calls may be opened

@@ -44,6 +44,7 @@ impl<'a> Walker<'a> {
     }
 
     /// Computes an expression, and then does the rest with its value. A leaf is computed at once.
+    #[inline(always)]
     pub(crate) fn evaluate_then(&mut self, e: &'a Expr, rest: Rest<'a>) -> Result<(), Stop>
         ensures { EvaluatesThen self.old (expr_of e.now) rest.entry result self.new }
     {

@@ -65,6 +65,8 @@ pub(crate) struct Walker<'a> {
     /// What was computed last. It is 0 behind a statement that didn't return.
     pub(crate) value: u32,
     pub(crate) rests: Rests<'a>,
+    /// The names of the call that was left last: the next call takes their memory.
+    pub(crate) spare: Names<'a>,
     pub(crate) alloc: Global,
 }
 
@@ -122,7 +124,7 @@ impl<'a> Walker<'a> {
             Rest::Again(looped) => self.again(looped),
             Rest::Run(placed) => self.run(placed),
             Rest::Return => self.leave(),
-            Rest::Caller(outer) => self.go_back(Box::into_inner(outer)),
+            Rest::Caller(outer) => self.go_back(outer),
         }
     }
 
@@ -179,6 +181,7 @@ fn walk_from_main(
         },
         value: 0,
         rests: Rests::new(alloc),
+        spare: Names::new(alloc),
         alloc,
     };
     match walker.function(b"main") {

@@ -150,7 +150,7 @@ pub(crate) enum Rest<'a> {
     /// Returns the value from the call.
     Return,
     /// Goes on in the call that was open before.
-    Caller(Box<OpenCall<'a>>),
+    Caller(OpenCall<'a>),
 }
 
 /// The steps that are left to do, the next one last.
