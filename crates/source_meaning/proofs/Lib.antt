@@ -11,4 +11,5 @@ pub mod Called
 pub mod Numbered
 pub mod Laid
 pub mod Onwards
+pub mod AtOnce
 pub mod Steps

@@ -17,6 +17,15 @@ pub onwards_alike : {A : Type 0} (r : Run A) (f g : A → Table → Outcome) →
 onwards_alike (gives x t) f g h = h x t
 onwards_alike (stops s) f g h = refl
 
+-- one run after the other, and runs that go on alike
+pub bound_after : {A B C : Type 0} (r : Run A) (f : A → Table → Run B) (g : B → Table → Run C) → (r >>= f) >>= g ≡ r >>= λ x t. f x t >>= g
+bound_after (gives x t) f g = refl
+bound_after (stops s) f g = refl
+
+pub bound_alike : {A B : Type 0} (r : Run A) (f g : A → Table → Run B) → ((x : A) (t : Table) → f x t ≡ g x t) → r >>= f ≡ r >>= g
+bound_alike (gives x t) f g h = h x t
+bound_alike (stops s) f g h = refl
+
 -- the same was meant, and no more is left
 pub went_as : (o q : Outcome) (m n : ℕ) (y : Result (Unit {0}) Stop) (w : Walker) → Went q m y w → o ≡ q → m ≤ n → Went o n y w
 went_as o q m n (Ok _) w (same, few) is less = (is ∙ same, omega arith)

@@ -1,7 +1,7 @@
 -- What each kind of node leaves to do.
-use Rattle.std.proofs.Common.{◌≡◌, ℕ, zero, suc, ◌+◌, ◌-◌, ◌≤◌, List, [], ◌∷◌, ◌++◌, Option, Some, None, option_map, Result, Ok, Bor, slice_set, replicate, length, map, nat_lt, false, refl, sym, ap, subst, ◌∙◌, arith}
+use Rattle.std.proofs.Common.{◌≡◌, ℕ, zero, suc, ◌+◌, ◌-◌, ◌≤◌, List, [], ◌∷◌, ◌++◌, Option, Some, None, option_map, Result, Bor, slice_set, replicate, length, map, nat_lt, false, refl, sym, ap, subst, ◌∙◌, arith}
 use Rattle.std.proofs.lemmas.List.{append_assoc, append-nil}
-use Rattle.std.specs.Global.{Box, Vec}
+use Rattle.std.specs.Global.{Vec}
 use Rattle.source_meaning.specs.Ast.{Expr as ExprTree, call, unary, binary, and, or, assign, Args as ArgsTree, no_args, arg, Stmt as StmtTree, var, if_only, if_else, while, return, block, eval, no_stmts, stmt, Function as FunctionTree, Program}
 use Rattle.source_meaning.specs.Operators.{unary_value, binary_value}
 use Rattle.source_meaning.specs.Scope.{Scope, function_of, behind, inner, variables_in, body_scope, no_scope}
@@ -11,8 +11,8 @@ use Rattle.source_meaning.specs.Trees.{expr_of, args_of, stmt_of, stmts_of}
 use Rattle.source_meaning.specs.Numbering.{next_in}
 use Rattle.source_meaning.specs.Running.{named, name_of, variable_named, scope_with, stored_numbered}
 use Rattle.source_meaning.specs.Resuming.{Opened, opened, with_table, stacked, onwards, turned, resume, leave, world_in, run_in, run_all_in, IsChosen, condition_of, body_of}
-use Rattle.source_meaning.specs.Weights.{expr_weight, stmt_weight, turns_weight, heaviest, call_weight, rests_weight}
-use Rattle.source_meaning.specs.Walking.{Follows, HasValue, Gives, EvaluatesThen, Evaluates, Computes, Opens, Runs, RunsAll, Resumes, program_in, with_value, settled, evaluated_then, ran, weigh, weigh_rests, weight_of_call}
+use Rattle.source_meaning.specs.Weights.{expr_weight, stmt_weight, stmts_weight, turns_weight, heaviest, call_weight, rests_weight}
+use Rattle.source_meaning.specs.Walking.{Follows, HasValue, Leaves, Leads, Puts, Gives, EvaluatesThen, Evaluates, Starts, Computes, Opens, Begins, Enters, Runs, RunsAll, Resumes, Departs, program_in, with_value, settled, evaluated_then, ran, weigh, weigh_rests, weight_of_call}
 use Rattle.source_meaning.specs.declared.trees.Expr.{Expr}
 use Rattle.source_meaning.specs.declared.trees.Args.{Args}
 use Rattle.source_meaning.specs.declared.trees.Stmt.{Stmt}
@@ -21,6 +21,7 @@ use Rattle.source_meaning.specs.declared.kinds.UnaryOp.{UnaryOp}
 use Rattle.source_meaning.specs.declared.kinds.BinaryOp.{BinaryOp}
 use Rattle.source_meaning.specs.declared.kinds.ValueType.{ValueType}
 use Rattle.source_meaning.specs.declared.names.Named.{Named}
+use Rattle.source_meaning.specs.declared.names.Names.{Names}
 use Rattle.source_meaning.specs.declared.rests.OpenCall.{OpenCall}
 use Rattle.source_meaning.specs.declared.rests.Placed.{Placed}
 use Rattle.source_meaning.specs.declared.rests.Branches.{Branches}
@@ -28,7 +29,7 @@ use Rattle.source_meaning.specs.declared.rests.PlacedAll.{PlacedAll}
 use Rattle.source_meaning.specs.declared.rests.Loop.{Loop}
 use Rattle.source_meaning.specs.declared.rests.Rests.{Rests}
 use Rattle.source_meaning.specs.declared.rests.Rest.{Rest}
-use Rattle.source_meaning.specs.declared.rests.Rest.TheVariants.{Unary, Right, And, Or, Store, Argument, Initialize, Discard, RunAll, Declare, Forget, If, IfElse, Turn, Again, Return, Caller}
+use Rattle.source_meaning.specs.declared.rests.Rest.TheVariants.{Unary, Right, Binary, And, Or, Store, Argument, Initialize, Discard, RunAll, Declare, Forget, If, IfElse, Turn, Again, Return, Caller}
 use Rattle.source_meaning.specs.declared.interpreter.Stop.{Stop}
 use Rattle.source_meaning.specs.declared.interpreter.Walker.{Walker}
 use Rattle.source_meaning.proofs.Onwards.{onwards_after, onwards_alike, went_as, loop_turned}
@@ -84,28 +85,97 @@ Next w y t = resume (program_in w) w.turns (stacked w.rests) (with_table (opened
 abbrev pub Settle : Walker → Option ℕ → Table → Outcome
 Settle w r t = elim r [ None ↦ Next w 0 t | Some v ↦ leave (program_in w) w.turns (stacked w.rests) v ]
 
--- values of operators
-module _ (w : Walker) where
-  pub unary_has : (at : ℕ) (op : UnaryOp) (a : ExprTree) (x : ℕ) → HasValue w a x → HasValue w (unary at op a) (unary_value op x)
-  unary_has at op a x h = ap (λ q. q >>= λ z u. gives (unary_value op z) u) h
-
-  pub binary_has : (at : ℕ) (op : BinaryOp) (a b : ExprTree) (x z : ℕ) → HasValue w a x → HasValue w b z → HasValue w (binary at op a b) (binary_value op x z)
-  binary_has at op a b x z h k = ap (λ q. q >>= λ x u. V w u b >>= λ z t. gives (binary_value op x z) t) h ∙ ap (λ q. q >>= λ z t. gives (binary_value op x z) t) k
-
 module _ (w : Walker) (y : Result (Unit {0}) Stop) (v : Walker) where
   -- an expression whose value is known
-  pub at_once : (e : ExprTree) (rest : Rest) (x : ℕ) → HasValue w e x → Resumes (record w { value = x }) (rest ∷ stacked w.rests) y v → EvaluatesThen w e rest y v
-  at_once e rest x is h = record { went = went_as _ _ _ _ y v h.went (ap (λ q. onwards q (λ z t. resume (program_in w) w.turns (rest ∷ stacked w.rests) (with_table (opened w.call) t) z)) is) (omega arith) }
+  pub at_once : (e : ExprTree) (rest : Rest) (x : ℕ) → HasValue w.call e x → Resumes (record w { value = x }) (rest ∷ stacked w.rests) y v → EvaluatesThen w e rest y v
+  at_once e rest x is h = record { went = went_as _ _ _ _ y v h.went (ap (λ q. onwards q (λ z t. resume (program_in w) w.turns (rest ∷ stacked w.rests) (with_table (opened w.call) t) z)) (is (program_in w) w.turns)) (omega arith) }
 
-  pub assigned_goes : (at : ℕ) (a b : ExprTree) (n : Option ℕ) (x : ℕ) (t : Vec ℕ) → n ≡ option_map (λ z. z.number) (target (scope_with (opened w.call).names 0) a) → HasValue w b x → t.items ≡ stored_numbered n x w.call.table.items →
-      Gives (record w { call = record w.call { table = t } }) 0 y v → EvaluatesThen w (assign at a b) Discard y v
-  assigned_goes at a b n x t number is stored h =
+  pub value_pushed : (e : ExprTree) (rest : Rest) (x : ℕ) (r : Rests) → stacked r ≡ rest ∷ stacked w.rests → HasValue w.call e x → Gives (record w { rests = r }) x y v → EvaluatesThen w e rest y v
+  value_pushed e rest x r pushed is h =
       record {
         went = went_as _ _ _ _ y v h.went
-            (ap (λ q. onwards (q >>= λ z u. gives z (stored_in (target (scope_with (opened w.call).names 0) a) z u)) (λ z u. Next w 0 u)) is
-            ∙ ap (λ u. Next w 0 u) (stored_by_number (target (scope_with (opened w.call).names 0) a) x w.call.table.items ∙ ap (λ m. stored_numbered m x w.call.table.items) (sym number) ∙ sym stored))
+            (ap (λ q. onwards q (λ z t. resume (program_in w) w.turns (rest ∷ stacked w.rests) (with_table (opened w.call) t) z)) (is (program_in w) w.turns)
+            ∙ ap (λ k. resume (program_in w) w.turns k (opened w.call) x) (sym pushed))
+            (omega (arith, ap (λ k. weigh_rests w k) pushed));
+      }
+
+  pub applied_goes : (e : ExprTree) (op : BinaryOp) (x z u : ℕ) → HasValue w.call e z → u ≡ binary_value op x z → Gives w u y v → EvaluatesThen w e (Binary op x) y v
+  applied_goes e op x z u is comes h =
+      record {
+        went = went_as _ _ _ _ y v h.went
+            (ap (λ q. onwards q (λ m t. resume (program_in w) w.turns (Binary op x ∷ stacked w.rests) (with_table (opened w.call) t) m)) (is (program_in w) w.turns)
+            ∙ ap (λ m. resume (program_in w) w.turns (stacked w.rests) (opened w.call) m) (sym comes))
             (omega arith);
       }
+
+  pub right_goes : (e : ExprTree) (op : BinaryOp) (r : Bor Expr) (x : ℕ) → HasValue w.call e x → EvaluatesThen w (expr_of r.now) (Binary op x) y v → EvaluatesThen w e (Right op r) y v
+  right_goes e op r x is h =
+      record {
+        went = went_as _ _ _ _ y v h.went
+            (ap (λ q. onwards q (λ m t. resume (program_in w) w.turns (Right op r ∷ stacked w.rests) (with_table (opened w.call) t) m)) (is (program_in w) w.turns))
+            (omega arith);
+      }
+
+  pub departs_goes : Departs w y v → Resumes w (Return ∷ stacked w.rests) y v
+  departs_goes h = record { went = went_as _ _ _ _ y v h.went refl (omega arith) }
+
+  -- an expression that was computed for what it does
+  pub discarded_goes : (e : ExprTree) (x : ℕ) (d : OpenCall) → Leaves w.call e x d → Gives (record w { call = d }) 0 y v → EvaluatesThen w e Discard y v
+  discarded_goes e x d is h =
+      record {
+        went = went_as _ _ _ _ y v h.went
+            (ap (λ q. onwards q (λ z t. resume (program_in w) w.turns (stacked w.rests) (with_table (opened w.call) t) 0)) (is.has (program_in w) w.turns)
+            ∙ ap (λ o. resume (program_in w) w.turns (stacked w.rests) o 0) (sym is.kept))
+            (omega (arith, ap (λ o. rests_weight w.functions.now w.turns o.calls (stacked w.rests)) is.kept));
+      }
+
+  -- an expression that is begun behind a step
+  pub started_goes : (e : ExprTree) (rest : Rest) (r : Rests) → stacked r ≡ rest ∷ stacked w.rests → Starts (record w { rests = r }) e y v → EvaluatesThen w e rest y v
+  started_goes e rest r is h =
+      record {
+        went = went_as _ _ _ _ y v h.went
+            (ap (λ k. onwards (V w w.call.table.items e) (λ z t. resume (program_in w) w.turns k (with_table (opened w.call) t) z)) (sym is))
+            (omega (arith, ap (λ k. weigh_rests w k) is));
+      }
+
+  pub call_starts : (at : ℕ) (f : List ℕ) (es : ArgsTree) → Computes w f [] es y v → Starts w (call at f es) y v
+  call_starts at f es h = record { went = went_as _ _ _ _ y v h.went refl (omega arith) }
+
+  -- a call with arguments that are known
+  pub put_goes : (f known more : List ℕ) (es rest : ArgsTree) → Puts w.call known es more rest → Computes w f more rest y v → Computes w f known es y v
+  put_goes f known more es rest is h = record { went = went_as _ _ _ _ y v h.went (ap (λ q. with_value w q) (is.does (program_in w) w.turns f)) (omega (arith, is.fewer (weight_of_call w) w.turns)) }
+
+  -- statements of which the first ones are done
+  settled_kept : (d : OpenCall) → opened d ≡ with_table (opened w.call) d.table.items → (q : Run (Option ℕ)) → settled w q ≡ settled (record w { call = d }) q
+  settled_kept d kept q = ap (λ o. onwards q (λ s t. elim s [ None ↦ resume (program_in w) w.turns (stacked w.rests) (with_table o t) 0 | Some z ↦ leave (program_in w) w.turns (stacked w.rests) z ])) (sym kept)
+
+  pub led_goes : (q r : PlacedAll) (d : OpenCall) → Leads w.call q d r → RunsAll (record w { call = d }) (next_in r.numbering.now) (stmts_of r.statements.now) y v → RunsAll w (next_in q.numbering.now) (stmts_of q.statements.now) y v
+  led_goes q r d is h =
+      record {
+        went = went_as _ _ _ _ y v h.went
+            (ap (λ m. settled w m) (is.does (program_in w) w.turns) ∙ settled_kept d is.kept _)
+            (omega (arith, is.fewer (weight_of_call w) w.turns, ap (λ o. stmts_weight (call_weight w.functions.now w.turns o.calls) w.turns (stmts_of r.statements.now) + rests_weight w.functions.now w.turns o.calls (stacked w.rests)) is.kept));
+      }
+
+  pub begin_goes : (q r : PlacedAll) (d : OpenCall) (s : Rests) → Leads w.call q d r → Follows w.rests r s → Gives (record w { call = d; rests = s }) 0 y v → Begins w (next_in q.numbering.now) (stmts_of q.statements.now) y v
+  begin_goes q r d s is follows h =
+      record {
+        went = went_as _ _ _ _ y v h.went
+            (ap (λ m. settled w m) (is.does (program_in w) w.turns)
+            ∙ settled_kept d is.kept _
+            ∙ sym (follows.same (program_in w) w.turns (opened d) None))
+            (omega (arith, is.fewer (weight_of_call w) w.turns, follows.fewer w.functions.now w.turns w.call.calls, ap (λ o. rests_weight w.functions.now w.turns o.calls (stacked s)) is.kept));
+      }
+
+  pub block_goes : (at next : ℕ) (ss : _) → Begins w next ss y v → Runs w next (block at ss) y v
+  block_goes at next ss h = record {
+    went = went_as _ _ _ _ y v h.went
+        (ap (λ m. settled w m) (run_all_alike (world_in (program_in w) w.turns (opened w.call)) ss (inner (scope_with (opened w.call).names next)) (scope_with (opened w.call).names next) w.call.table.items (refl, refl)))
+        (omega arith);
+  }
+
+  pub block_enters : (at next : ℕ) (ss : _) → Begins w next ss y v → Enters w next (block at ss) y v
+  block_enters at next ss h = record { went = went_as _ _ _ _ y v (block_goes at next ss h).went refl (omega arith) }
 
   pub unary_goes : (at : ℕ) (op : UnaryOp) (a : ExprTree) → EvaluatesThen w a (Unary op) y v → Evaluates w (unary at op a) y v
   unary_goes at op a h = record { went = went_as _ _ _ _ y v h.went (onwards_after (V w w.call.table.items a) (λ x u. gives (unary_value op x) u) (Next w)) (omega arith) }
@@ -166,7 +236,7 @@ module _ (w : Walker) (y : Result (Unit {0}) Stop) (v : Walker) where
   pub if_else_goes : (at : ℕ) (e : ExprTree) (q : Branches) → EvaluatesThen w e (IfElse q) y v → Runs w (next_in q.numbering.now) (if_else at e (stmt_of q.then.now) (stmt_of q.otherwise.now)) y v
   if_else_goes at e q h = record { went = went_as _ _ _ _ y v h.went (after_value (next_in q.numbering.now) e _ (IfElse q) (λ z t. refl)) (omega arith) }
 
-  pub chosen_goes : (q : Branches) (p : Placed) → IsChosen q w.value p → Runs w (next_in p.numbering.now) (stmt_of p.statement.now) y v → Resumes w (IfElse q ∷ stacked w.rests) y v
+  pub chosen_goes : (q : Branches) (p : Placed) → IsChosen q w.value p → Enters w (next_in p.numbering.now) (stmt_of p.statement.now) y v → Resumes w (IfElse q ∷ stacked w.rests) y v
   chosen_goes q p is h = record { went = went_as _ _ _ _ y v h.went (same w.value is) (bound w.value is) }
     where
       T : ℕ → StmtTree → Run (Option ℕ)
@@ -176,7 +246,7 @@ module _ (w : Walker) (y : Result (Unit {0}) Stop) (v : Walker) where
       same zero (there, begins) = λ i. ran w (sym begins i) (stmt_of (sym there i))
       same (suc n) (there, begins) = λ i. ran w (sym begins i) (stmt_of (sym there i))
 
-      bound : (x : ℕ) → IsChosen q x p → stmt_weight (weight_of_call w) w.turns (stmt_of p.statement.now) + weigh w ≤ weigh_rests w (IfElse q ∷ stacked w.rests)
+      bound : (x : ℕ) → IsChosen q x p → suc (suc (stmt_weight (weight_of_call w) w.turns (stmt_of p.statement.now) + weigh w)) ≤ weigh_rests w (IfElse q ∷ stacked w.rests)
       bound zero (there, begins) = omega (arith, ap (λ s. stmt_weight (weight_of_call w) w.turns (stmt_of s)) there)
       bound (suc n) (there, begins) = omega (arith, ap (λ s. stmt_weight (weight_of_call w) w.turns (stmt_of s)) there)
 
@@ -201,15 +271,6 @@ module _ (w : Walker) (y : Result (Unit {0}) Stop) (v : Walker) where
   pub eval_goes : (next : ℕ) (e : ExprTree) → EvaluatesThen w e Discard y v → Runs w next (eval e) y v
   eval_goes next e h = record { went = went_as _ _ _ _ y v h.went (after_value next e (λ x u. gives None u) Discard (λ z t. refl)) (omega arith) }
 
-  pub block_goes : (at : ℕ) (q : PlacedAll) (r : Rests) → stacked r ≡ RunAll q ∷ stacked w.rests → Runs w (next_in q.numbering.now) (block at (stmts_of q.statements.now)) (Ok tt) (record w { rests = r })
-  block_goes at q r is = record {
-    went = (
-      ap (λ m. settled w m) (run_all_alike (world_in (program_in w) w.turns (opened w.call)) (stmts_of q.statements.now) (inner (scope_with (opened w.call).names (next_in q.numbering.now))) (scope_with (opened w.call).names (next_in q.numbering.now)) w.call.table.items (refl, refl))
-          ∙ ap (λ k. resume (program_in w) w.turns k (opened w.call) w.value) (sym is),
-      omega (arith, ap (λ k. weigh_rests w k) is),
-    );
-  }
-
   -- leaves of an expression, and calls
   pub leaf_goes : (e : ExprTree) (x : ℕ) → V w w.call.table.items e ≡ gives x w.call.table.items → 1 ≤ expr_weight (weight_of_call w) w.turns e → Gives w x y v → Evaluates w e y v
   leaf_goes e x is some h = record { went = went_as _ _ _ _ y v h.went (ap (λ q. onwards q (Next w)) is) (omega arith) }
@@ -233,12 +294,12 @@ module _ (w : Walker) (y : Result (Unit {0}) Stop) (v : Walker) where
   }
 
   -- a call of a function whose frame fits
-  pub open_goes : (f : FunctionTree) (args : List ℕ) (inside : OpenCall) (kept : Box OpenCall) (r : Rests) (n : ℕ) →
+  pub open_goes : (f : FunctionTree) (args : List ℕ) (inside : OpenCall) (kept : OpenCall) (r : Rests) (n : ℕ) (s : Names) →
       w.call.calls ≡ suc inside.calls → nat_lt w.call.left (frame f).bytes ≡ false → inside.left ≡ w.call.left - (frame f).bytes →
       inside.table.items ≡ args ++ replicate (variables_in f.body) 0 → named inside.names ≡ map name_of (body_scope f).variables → n ≡ length f.params →
-      kept.value ≡ w.call → stacked r ≡ Caller kept ∷ stacked w.rests → ((calls : ℕ) → stmt_weight calls w.turns f.body ≤ heaviest calls w.turns w.functions.now) →
-      Runs (record w { call = inside; rests = r }) n f.body y v → Opens w f args y v
-  open_goes f args inside kept r n some fits left filled names count same is light h = record {
+      kept ≡ w.call → stacked r ≡ Caller kept ∷ stacked w.rests → ((calls : ℕ) → stmt_weight calls w.turns f.body ≤ heaviest calls w.turns w.functions.now) →
+      Enters (record w { call = inside; rests = r; spare = s }) n f.body y v → Opens w f args y v
+  open_goes f args inside kept r n s some fits left filled names count same is light h = record {
     went = went_as _ _ _ _ y v h.went
         (ap (λ z. with_value w (returned z w.call.table.items)) (call_is (program_in w) w.turns w.call.calls inside.calls w.call.left f args inside.left inside.table.items some fits left filled)
         ∙ enters (run U (body_scope f) inside.table.items f.body)

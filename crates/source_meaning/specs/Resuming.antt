@@ -13,7 +13,7 @@ use Rattle.source_meaning.specs.declared.rests.Branches.{Branches}
 use Rattle.source_meaning.specs.declared.rests.Loop.{Loop}
 use Rattle.source_meaning.specs.declared.rests.Rests.{Rests}
 use Rattle.source_meaning.specs.declared.rests.Rest.{Rest}
-use Rattle.source_meaning.specs.declared.rests.Rest.TheVariants.{Evaluate, Unary, Right, Binary, And, Or, Store, Argument, Initialize, Discard, RunAll, Declare, Forget, If, IfElse, Turn, Again, Return, Caller}
+use Rattle.source_meaning.specs.declared.rests.Rest.TheVariants.{Evaluate, Unary, Right, Binary, And, Or, Store, Argument, Initialize, Discard, RunAll, Declare, Forget, If, IfElse, Turn, Again, Run as RunOne, Return, Caller}
 
 -- the steps that are left, the next one first
 abbrev pub stacked : Rests → List Rest
@@ -92,11 +92,12 @@ module _ (p : Program) (turns : ℕ) where
     resume (IfElse q ∷ k) o x = onwards (elim x [ zero ↦ run_in o (next_in q.numbering.now + variables_in (stmt_of q.then.now)) (stmt_of q.otherwise.now) | suc n ↦ run_in o (next_in q.numbering.now) (stmt_of q.then.now) ]) (λ r t. elim r [ None ↦ resume k (with_table o t) 0 | Some v ↦ leave k v ])
     resume (Turn l ∷ k) o x = onwards (turned (condition_of o l) (body_of o l) l.turns x o.table) (λ r t. elim r [ None ↦ resume k (with_table o t) 0 | Some v ↦ leave k v ])
     resume (Again l ∷ k) o x = onwards (loop (condition_of o l) (body_of o l) l.turns o.table) (λ r t. elim r [ None ↦ resume k (with_table o t) 0 | Some v ↦ leave k v ])
+    resume (RunOne q ∷ k) o x = onwards (run_in o (next_in q.numbering.now) (stmt_of q.statement.now)) (λ r t. elim r [ None ↦ resume k (with_table o t) 0 | Some v ↦ leave k v ])
     resume (Return ∷ k) o x = leave k x
-    resume (Caller c ∷ k) o x = resume k (opened c.value) x
+    resume (Caller c ∷ k) o x = resume k (opened c) x
 
     -- returns a value from the open call
     pub leave : List Rest → ℕ → Outcome
     leave [] x = Ended x
-    leave (Caller c ∷ k) x = resume k (opened c.value) x
+    leave (Caller c ∷ k) x = resume k (opened c) x
     leave (r ∷ k) x = leave k x

@@ -2,11 +2,13 @@
 use Rattle.std.specs.Prelude.{◌≡◌, ℕ, suc, ◌+◌, ◌<◌, ◌≤◌, List, ◌∷◌, map, Option, Some, None, Result, Ok, Err}
 use Rattle.source_meaning.specs.Ast.{Expr as ExprTree, Args as ArgsTree, Stmt as StmtTree, Stmts as StmtsTree, Function as FunctionTree, Program}
 use Rattle.source_meaning.specs.Meaning.{Deep as AtDeep, More as AtMore, Run, gives, Outcome, Stopped, returned, call_in}
-use Rattle.source_meaning.specs.Trees.{function_of}
+use Rattle.source_meaning.specs.Trees.{function_of, stmts_of}
+use Rattle.source_meaning.specs.Numbering.{next_in}
 use Rattle.source_meaning.specs.Resuming.{Opened, opened, with_table, stacked, onwards, resume, leave, value_in, call_with, run_in, run_all_in}
 use Rattle.source_meaning.specs.Weights.{expr_weight, args_weight, stmt_weight, stmts_weight, call_weight, rests_weight}
 use Rattle.source_meaning.specs.declared.callees.Callee.{Callee}
 use Rattle.source_meaning.specs.declared.rests.PlacedAll.{PlacedAll}
+use Rattle.source_meaning.specs.declared.rests.OpenCall.{OpenCall}
 use Rattle.source_meaning.specs.declared.rests.Rests.{Rests}
 use Rattle.source_meaning.specs.declared.rests.Rest.{Rest}
 use Rattle.source_meaning.specs.declared.rests.Rest.TheVariants.{RunAll}
@@ -30,10 +32,6 @@ with_value w r = onwards r (λ y t. resume (program_in w) w.turns (stacked w.res
 
 abbrev pub settled : Walker → Run (Option ℕ) → Outcome
 settled w r = onwards r (λ s t. elim s [ None ↦ resume (program_in w) w.turns (stacked w.rests) (with_table (opened w.call) t) 0 | Some v ↦ leave (program_in w) w.turns (stacked w.rests) v ])
-
--- the expression has this value, and changes nothing
-abbrev pub HasValue : Walker → ExprTree → ℕ → Type 0
-HasValue w e x = value_in (program_in w) w.turns (opened w.call) e ≡ gives x w.call.table.items
 
 -- an expression, the arguments of a call that are left behind others, a call, a statement, statements
 abbrev pub evaluated : Walker → ExprTree → Outcome
@@ -113,3 +111,33 @@ pub record GoesBack (w : Walker) (o : Opened) (y : Result (Unit {0}) Stop) (v : 
 pub record Follows (r : Rests) (q : PlacedAll) (s : Rests) : Type 0 where
   pub same : (p : Program) (turns : ℕ) (o : Opened) (x : Option ℕ) → ◌≡◌ {A = Outcome} (elim x [ None ↦ resume p turns (stacked s) o 0 | Some v ↦ leave p turns (stacked s) v ]) (elim x [ None ↦ resume p turns (RunAll q ∷ stacked r) o 0 | Some v ↦ leave p turns (RunAll q ∷ stacked r) v ])
   pub fewer : (fs : List Callee) (turns calls : ℕ) → rests_weight fs turns calls (stacked s) ≤ rests_weight fs turns calls (RunAll q ∷ stacked r)
+
+-- What an open call does at once. The expression has this value, and changes nothing.
+abbrev pub HasValue : OpenCall → ExprTree → ℕ → Type 0
+HasValue c e x = (p : Program) (turns : ℕ) → value_in p turns (opened c) e ≡ gives x c.table.items
+
+-- the expression has this value, and leaves the variables as they are then
+pub record Leaves (c : OpenCall) (e : ExprTree) (x : ℕ) (d : OpenCall) : Type 0 where
+  pub has : (p : Program) (turns : ℕ) → value_in p turns (opened c) e ≡ gives x d.table.items
+  pub kept : opened d ≡ with_table (opened c) d.table.items
+
+-- statements come to the same as those that are left of them, with the variables as they are then
+pub record Leads (c : OpenCall) (q : PlacedAll) (d : OpenCall) (r : PlacedAll) : Type 0 where
+  pub does : (p : Program) (turns : ℕ) → run_all_in p turns (opened c) (next_in q.numbering.now) (stmts_of q.statements.now) ≡ run_all_in p turns (opened d) (next_in r.numbering.now) (stmts_of r.statements.now)
+  pub kept : opened d ≡ with_table (opened c) d.table.items
+  pub fewer : (calls turns : ℕ) → stmts_weight calls turns (stmts_of r.statements.now) ≤ stmts_weight calls turns (stmts_of q.statements.now)
+
+-- a call comes to the same with more arguments that are known and fewer that are left
+pub record Puts (c : OpenCall) (known : List ℕ) (es : ArgsTree) (more : List ℕ) (rest : ArgsTree) : Type 0 where
+  pub does : (p : Program) (turns : ℕ) (f : List ℕ) → call_with p turns (opened c) f known es ≡ call_with p turns (opened c) f more rest
+  pub fewer : (calls turns : ℕ) → args_weight calls turns rest ≤ args_weight calls turns es
+
+-- An expression, statements and a statement of which some may be left for steps of their own.
+pub record Starts (w : Walker) (e : ExprTree) (y : Result (Unit {0}) Stop) (v : Walker) : Type 0 where
+  pub went : Went (evaluated w e) (suc (suc (expr_weight (weight_of_call w) w.turns e + weigh w))) y v
+
+pub record Begins (w : Walker) (next : ℕ) (ss : StmtsTree) (y : Result (Unit {0}) Stop) (v : Walker) : Type 0 where
+  pub went : Went (ran_all w next ss) (suc (suc (stmts_weight (weight_of_call w) w.turns ss + weigh w))) y v
+
+pub record Enters (w : Walker) (next : ℕ) (s : StmtTree) (y : Result (Unit {0}) Stop) (v : Walker) : Type 0 where
+  pub went : Went (ran w next s) (suc (suc (stmt_weight (weight_of_call w) w.turns s + weigh w))) y v

@@ -4,7 +4,7 @@ use Rattle.source_meaning.specs.Ast.{Expr, num, truth, name, call, unary, binary
 use Rattle.source_meaning.specs.Trees.{expr_of, args_of, stmt_of, stmts_of}
 use Rattle.source_meaning.specs.declared.callees.Callee.{Callee}
 use Rattle.source_meaning.specs.declared.rests.Rest.{Rest}
-use Rattle.source_meaning.specs.declared.rests.Rest.TheVariants.{Evaluate, Unary, Right, Binary, And, Or, Store, Argument, Initialize, Discard, RunAll, Declare, Forget, If, IfElse, Turn, Again, Return, Caller}
+use Rattle.source_meaning.specs.declared.rests.Rest.TheVariants.{Evaluate, Unary, Right, Binary, And, Or, Store, Argument, Initialize, Discard, RunAll, Declare, Forget, If, IfElse, Turn, Again, Run, Return, Caller}
 
 -- where each call weighs so much, and each loop makes at most so many turns
 module _ (calls turns : ℕ) where
@@ -27,13 +27,13 @@ module _ (calls turns : ℕ) where
   -- a loop of at most n turns, whose condition was computed
   abbrev pub turns_weight : ℕ → ℕ → ℕ → ℕ
   turns_weight condition body zero = 0
-  turns_weight condition body (suc n) = body + (condition + (turns_weight condition body n + 3))
+  turns_weight condition body (suc n) = body + (condition + (turns_weight condition body n + 4))
 
   abbrev mutual
     pub stmt_weight : Stmt → ℕ
     stmt_weight (var at x ty e) = expr_weight e + 3
-    stmt_weight (if_only at c a) = expr_weight c + (stmt_weight a + 3)
-    stmt_weight (if_else at c a b) = expr_weight c + (stmt_weight a + (stmt_weight b + 3))
+    stmt_weight (if_only at c a) = expr_weight c + (stmt_weight a + 5)
+    stmt_weight (if_else at c a b) = expr_weight c + (stmt_weight a + (stmt_weight b + 5))
     stmt_weight (stray_else at a) = suc (stmt_weight a)
     stmt_weight (while at c a) = expr_weight c + (turns_weight (expr_weight c) (stmt_weight a) turns + 3)
     stmt_weight (return at e) = expr_weight e + 3
@@ -62,10 +62,11 @@ module _ (calls turns : ℕ) where
   rest_weight (RunAll q) = stmts_weight (stmts_of q.statements.now)
   rest_weight (Declare v) = 0
   rest_weight Forget = 0
-  rest_weight (If q) = stmt_weight (stmt_of q.statement.now)
-  rest_weight (IfElse q) = stmt_weight (stmt_of q.then.now) + stmt_weight (stmt_of q.otherwise.now)
+  rest_weight (If q) = stmt_weight (stmt_of q.statement.now) + 2
+  rest_weight (IfElse q) = stmt_weight (stmt_of q.then.now) + (stmt_weight (stmt_of q.otherwise.now) + 2)
   rest_weight (Turn l) = turns_weight (expr_weight (expr_of l.condition.now)) (stmt_weight (stmt_of l.body.statement.now)) l.turns
   rest_weight (Again l) = expr_weight (expr_of l.condition.now) + (turns_weight (expr_weight (expr_of l.condition.now)) (stmt_weight (stmt_of l.body.statement.now)) l.turns + 2)
+  rest_weight (Run q) = stmt_weight (stmt_of q.statement.now)
   rest_weight Return = 0
   rest_weight (Caller c) = 0
 
@@ -73,11 +74,11 @@ module _ (fs : List Callee) (turns : ℕ) where
   -- a call, where at most n calls may be opened
   abbrev pub call_weight : ℕ → ℕ
   call_weight zero = 0
-  call_weight (suc n) = suc (heaviest (call_weight n) turns fs)
+  call_weight (suc n) = suc (suc (heaviest (call_weight n) turns fs))
 
   -- how many calls may be opened behind a step, where it is done with n
   abbrev pub calls_behind : Rest → ℕ → ℕ
-  calls_behind (Caller c) n = c.value.calls
+  calls_behind (Caller c) n = c.calls
   calls_behind r n = n
 
   -- the steps that are left, where at most n calls may be opened

@@ -145,10 +145,12 @@ pub(crate) enum Rest<'a> {
     Turn(Loop<'a>),
     /// Computes the condition of a loop again.
     Again(Loop<'a>),
+    /// Runs a statement.
+    Run(Placed<'a>),
     /// Returns the value from the call.
     Return,
     /// Goes on in the call that was open before.
-    Caller(Box<OpenCall<'a>>),
+    Caller(OpenCall<'a>),
 }
 
 /// The steps that are left to do, the next one last.
