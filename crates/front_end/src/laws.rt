@@ -15,7 +15,10 @@ ghost use Rattle.verdict.specs.Verdict.{IsVerdict, Limited, Accepted, most_frame
 /// Of a source without a fault of the phases up to types: the first function whose frame is too large is its limit, else code that is
 /// too large, and else it is a program.
 pub fn limits_come_last()
-    ensures frame { (text : List ℕ) (t : Tree Prog) (f : SourceFunction) → IsChecked text t → find (λ g. nat_lt most_frame (frame g).bytes) (ast t) ≡ Some f → IsVerdict text (Limited 602 (place_of text (tokens text) f.at) (frame f).bytes) }
-    ensures code { (text : List ℕ) (t : Tree Prog) → IsChecked text t → find (λ g. nat_lt most_frame (frame g).bytes) (ast t) ≡ None → most_code < 4 * length (instructions (ast t)) → IsVerdict text (Limited 603 (length text) (4 * length (instructions (ast t)))) }
-    ensures accepted { (text : List ℕ) (t : Tree Prog) → IsChecked text t → find (λ g. nat_lt most_frame (frame g).bytes) (ast t) ≡ None → 4 * length (instructions (ast t)) ≤ most_code → IsVerdict text (Accepted (ast t)) }
+    ensures frame { (text : List ℕ) (t : Tree Prog) (f : SourceFunction) → IsChecked text t → find (λ g. nat_lt most_frame (frame g).bytes) (ast t) ≡ Some f
+        → IsVerdict text (Limited 602 (place_of text (tokens text) f.at) (frame f).bytes) }
+    ensures code { (text : List ℕ) (t : Tree Prog) → IsChecked text t → find (λ g. nat_lt most_frame (frame g).bytes) (ast t) ≡ None
+        → most_code < 4 * length (instructions (ast t)) → IsVerdict text (Limited 603 (length text) (4 * length (instructions (ast t)))) }
+    ensures accepted { (text : List ℕ) (t : Tree Prog) → IsChecked text t → find (λ g. nat_lt most_frame (frame g).bytes) (ast t) ≡ None
+        → 4 * length (instructions (ast t)) ≤ most_code → IsVerdict text (Accepted (ast t)) }
 {}

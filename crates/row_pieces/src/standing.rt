@@ -216,7 +216,8 @@ impl Standing {
 
     // An else that opens a row of its own.
     fn open_else(&mut self, level: u32, place: u32, own: u32) -> Result<(), AllocError>
-        ensures { OnOk result (self.new ≡ record { stack = record { bound = level - 1; begin = self.old.count; place = place; own = own; joinable = false } ∷ self.old.stack; count = self.old.count; last = self.old.last }) }
+        ensures { OnOk result (self.new
+            ≡ record { stack = record { bound = level - 1; begin = self.old.count; place = place; own = own; joinable = false } ∷ self.old.stack; count = self.old.count; last = self.old.last }) }
     {
         self.rows.push(Open {
             bound: level.saturating_sub(1),

@@ -20,9 +20,13 @@ use row_laws::{evals_settle, marks_tell_programs, tokens_are_cut};
 pub fn walks_give_rows()
     ensures emitted { (r : Tree Prog) (d : Token) → settled None (map (mark_of d (left_parse r) (leaves r)) (made_by (left_parse r))) ≡ (part r).rows 0 0 false }
     ensures rows { (r : Tree Prog) (d : Token) → post (ast r) ≡ map (row_by_lists (walk_marks d (left_parse r) (leaves r))) (range_with_len 0 (length (walk_marks d (left_parse r) (leaves r)))) }
-    ensures faults { (r : Tree Prog) (d : Token) → ((i : ℕ) → i < length (walk_marks d (left_parse r) (leaves r)) → number_or (settled_at (walk_marks d (left_parse r) (leaves r)) i) < 2 ^ 32) → Tells (shape_faults (ast r)) (fold min (2 ^ 64 - 1) (fault_keys (walk_marks d (left_parse r) (leaves r)))) }
+    ensures faults { (r : Tree Prog) (d : Token)
+        → ((i : ℕ) → i < length (walk_marks d (left_parse r) (leaves r)) → number_or (settled_at (walk_marks d (left_parse r) (leaves r)) i) < 2 ^ 32)
+        → Tells (shape_faults (ast r)) (fold min (2 ^ 64 - 1) (fault_keys (walk_marks d (left_parse r) (leaves r)))) }
     ensures first { (r : Tree Prog) (d : Token) → settled_at (walk_marks d (left_parse r) (leaves r)) 0 ≡ (mark_at (walk_marks d (left_parse r) (leaves r)) 0).token }
-    ensures next { (r : Tree Prog) (d : Token) (k : ℕ) → suc k < length (walk_marks d (left_parse r) (leaves r)) → settled_at (walk_marks d (left_parse r) (leaves r)) (suc k) ≡ (if is_eval (mark_at (walk_marks d (left_parse r) (leaves r)) (suc k)).kind then (mark_at (walk_marks d (left_parse r) (leaves r)) k).token else (mark_at (walk_marks d (left_parse r) (leaves r)) (suc k)).token) }
+    ensures next { (r : Tree Prog) (d : Token) (k : ℕ) → suc k < length (walk_marks d (left_parse r) (leaves r))
+        → settled_at (walk_marks d (left_parse r) (leaves r)) (suc k)
+        ≡ (if is_eval (mark_at (walk_marks d (left_parse r) (leaves r)) (suc k)).kind then (mark_at (walk_marks d (left_parse r) (leaves r)) k).token else (mark_at (walk_marks d (left_parse r) (leaves r)) (suc k)).token) }
 {
     tokens_are_cut();
     marks_tell_programs();

@@ -109,7 +109,8 @@ pub record GoesBack (w : Walker) (o : Opened) (y : Result (Unit {0}) Stop) (v : 
 
 -- Statements come first in these steps: they come to the same as with a step for the statements, also where there is none for no statement.
 pub record Follows (r : Rests) (q : PlacedAll) (s : Rests) : Type 0 where
-  pub same : (p : Program) (turns : ℕ) (o : Opened) (x : Option ℕ) → ◌≡◌ {A = Outcome} (elim x [ None ↦ resume p turns (stacked s) o 0 | Some v ↦ leave p turns (stacked s) v ]) (elim x [ None ↦ resume p turns (RunAll q ∷ stacked r) o 0 | Some v ↦ leave p turns (RunAll q ∷ stacked r) v ])
+  pub same : (p : Program) (turns : ℕ) (o : Opened) (x : Option ℕ)
+      → ◌≡◌ {A = Outcome} (elim x [ None ↦ resume p turns (stacked s) o 0 | Some v ↦ leave p turns (stacked s) v ]) (elim x [ None ↦ resume p turns (RunAll q ∷ stacked r) o 0 | Some v ↦ leave p turns (RunAll q ∷ stacked r) v ])
   pub fewer : (fs : List Callee) (turns calls : ℕ) → rests_weight fs turns calls (stacked s) ≤ rests_weight fs turns calls (RunAll q ∷ stacked r)
 
 -- What an open call does at once. The expression has this value, and changes nothing.
@@ -123,7 +124,8 @@ pub record Leaves (c : OpenCall) (e : ExprTree) (x : ℕ) (d : OpenCall) : Type 
 
 -- statements come to the same as those that are left of them, with the variables as they are then
 pub record Leads (c : OpenCall) (q : PlacedAll) (d : OpenCall) (r : PlacedAll) : Type 0 where
-  pub does : (p : Program) (turns : ℕ) → run_all_in p turns (opened c) (next_in q.numbering.now) (stmts_of q.statements.now) ≡ run_all_in p turns (opened d) (next_in r.numbering.now) (stmts_of r.statements.now)
+  pub does : (p : Program) (turns : ℕ)
+      → run_all_in p turns (opened c) (next_in q.numbering.now) (stmts_of q.statements.now) ≡ run_all_in p turns (opened d) (next_in r.numbering.now) (stmts_of r.statements.now)
   pub kept : opened d ≡ with_table (opened c) d.table.items
   pub fewer : (calls turns : ℕ) → stmts_weight calls turns (stmts_of r.statements.now) ≤ stmts_weight calls turns (stmts_of q.statements.now)
 

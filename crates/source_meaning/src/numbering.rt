@@ -69,7 +69,8 @@ fn number_part<'a>(
     numbering: &mut Numbering,
     part: Part<'a>,
 ) -> Result<(), AllocError>
-    ensures same { OnOk result ((n : ℕ) → numbering.old.next ≡ n + all_of (part.entry ∷ listed parts.old) → (numbering.new.next ≡ n + all_of (listed parts.new)) × (laid n (listed parts.new) (done numbering.new) ≡ laid n (part.entry ∷ listed parts.old) (done numbering.old))) }
+    ensures same { OnOk result ((n : ℕ) → numbering.old.next ≡ n + all_of (part.entry ∷ listed parts.old) → (numbering.new.next ≡ n + all_of (listed parts.new))
+        × (laid n (listed parts.new) (done numbering.new) ≡ laid n (part.entry ∷ listed parts.old) (done numbering.old))) }
     ensures less { OnOk result (weigh_parts (listed parts.new) < weigh_parts (part.entry ∷ listed parts.old)) }
 {
     match part {

@@ -93,4 +93,5 @@ pub record AreHanded (numbers ends : List ℕ) (standings : List Standing) : Typ
 -- kinds, first rows of subtrees and own tokens of the rows that a stretch closes
 abbrev pub AreColumnsOf : (text numbers ends : List ℕ) → ℕ → List Kind → (lows tokens : List ℕ) → Type 0
 AreColumnsOf text numbers ends c kinds lows tokens =
-    (r : Tree Prog) → IsParseOf text numbers r → AreStretch (left_parse r) (leaves r) (standing_before numbers ends c).count (standing_before numbers ends c).last (rows_of_stretch numbers ends c) kinds lows tokens
+    (r : Tree Prog) → IsParseOf text numbers r
+    → AreStretch (left_parse r) (leaves r) (standing_before numbers ends c).count (standing_before numbers ends c).last (rows_of_stretch numbers ends c) kinds lows tokens

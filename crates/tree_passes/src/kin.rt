@@ -79,7 +79,8 @@ pub(crate) fn find_all(
     requires cuts { AreCuts ends.now (length columns.now.kinds.items) }
     requires count { length ends.now < 2 ^ 62 }
     ensures many { IfOk result (λ v. length v.items ≡ length ends.now) }
-    ensures each { IfOk result (λ v. (c : ℕ) (x : AnyFound) → slice_get v.items c ≡ Some x → AreFound columns.now.kinds.items columns.now.lows.items columns.now.tokens.items (start_of ends.now c) (number_at ends.now c) x) }
+    ensures each { IfOk result (λ v. (c : ℕ) (x : AnyFound) → slice_get v.items c ≡ Some x
+        → AreFound columns.now.kinds.items columns.now.lows.items columns.now.tokens.items (start_of ends.now c) (number_at ends.now c) x) }
 {
     let alloc = crew.alloc();
     let make = |c: u64| -> Result<Found, AllocError>

@@ -44,7 +44,8 @@ fn walk_columns(
 ) -> Result<Columns, AllocError>
     requires cut { IsCut source.now.numbers.now ends.now }
     requires tokens { AreTokensOf source.now.text.now source.now.starts.now source.now.lengths.now source.now.owned.now }
-    ensures { IfOk result (λ v. (r : Tree Prog) → IsParseOf source.now.text.now source.now.numbers.now r → AreStretch (left_parse r) (leaves r) 0 no_row (made_by (left_parse r)) v.kinds.items v.lows.items v.tokens.items) }
+    ensures { IfOk result (λ v. (r : Tree Prog) → IsParseOf source.now.text.now source.now.numbers.now r
+        → AreStretch (left_parse r) (leaves r) 0 no_row (made_by (left_parse r)) v.kinds.items v.lows.items v.tokens.items) }
 {
     let parse = Parse {
         numbers: source.numbers,
@@ -138,7 +139,9 @@ fn answer(columns: Columns, ends: &[usize], found: Found) -> Result<Rows, ShapeF
     requires cuts { AreCuts ends.now (length columns.kinds.items) }
     requires ties { AreTies (ties_by_stretches columns.lows.items ends.now) found.kin.parents.items found.kin.lows.items found.kin.places.items found.kin.counts.items }
     requires known { (r : Tree Prog) × IsLeastKey r found.least }
-    ensures ok { IfOk result (λ v. (r : Tree Prog) → AreRowColumns (tree_marks r) columns.kinds.items columns.lows.items columns.tokens.items → AreSmall (tree_marks r) → IsLeastKey r found.least → (shape_faults (ast r) ≡ []) × (v ≡ map (row_by_lists (tree_marks r)) (numbers_of (tree_marks r)))) }
+    ensures ok { IfOk result (λ v. (r : Tree Prog) → AreRowColumns (tree_marks r) columns.kinds.items columns.lows.items columns.tokens.items
+        → AreSmall (tree_marks r) → IsLeastKey r found.least → (shape_faults (ast r) ≡ [])
+        × (v ≡ map (row_by_lists (tree_marks r)) (numbers_of (tree_marks r)))) }
     ensures fault { (code at : ℕ) → result ≡ Err (Told code at) → (r : Tree Prog) → IsLeastKey r found.least → earliest (shape_faults (ast r)) ≡ Some (record { at = at; code = code }) }
 {
     if found.least == u64::MAX {

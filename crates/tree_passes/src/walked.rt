@@ -94,7 +94,9 @@ pub(crate) fn columns_all(
 {
     let alloc = crew.alloc();
     let make = |c: u64| -> Result<Columns, AllocError>
-        requires { IsCut source.now.numbers.now ends.now × AreTokensOf source.now.text.now source.now.starts.now source.now.lengths.now source.now.owned.now × AreStarts source.now.numbers.now ends.now starts.now × (length ends.now ≤ length starts.now) × AreHanded source.now.numbers.now ends.now handed.now × (c < length ends.now) }
+        requires { IsCut source.now.numbers.now ends.now × AreTokensOf source.now.text.now source.now.starts.now source.now.lengths.now source.now.owned.now
+            × AreStarts source.now.numbers.now ends.now starts.now × (length ends.now ≤ length starts.now)
+            × AreHanded source.now.numbers.now ends.now handed.now × (c < length ends.now) }
         ensures { IfOk result (λ v. AreColumnsOf source.entry.now.text.now source.entry.now.numbers.now ends.entry.now c v.kinds.items v.lows.items v.tokens.items) }
     { columns_by_number(alloc, source, ends, starts, handed, c as usize) };
     crew.bundles(ends.len(), &make)
@@ -122,7 +124,8 @@ pub(crate) fn join_columns(
     requires cut { IsCut source.now.numbers.now ends.now }
     requires many { length parts.now ≡ length ends.now }
     requires each { (c : ℕ) (x : AnyColumns) → slice_get parts.now c ≡ Some x → AreColumnsOf source.now.text.now source.now.numbers.now ends.now c x.kinds.items x.lows.items x.tokens.items }
-    ensures { IfOk result (λ v. (r : Tree Prog) → IsParseOf source.now.text.now source.now.numbers.now r → AreStretch (left_parse r) (leaves r) 0 no_row (made_by (left_parse r)) v.kinds.items v.lows.items v.tokens.items) }
+    ensures { IfOk result (λ v. (r : Tree Prog) → IsParseOf source.now.text.now source.now.numbers.now r
+        → AreStretch (left_parse r) (leaves r) 0 no_row (made_by (left_parse r)) v.kinds.items v.lows.items v.tokens.items) }
 {
     let _ = source;
     let _ = ends;

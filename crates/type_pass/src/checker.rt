@@ -18,8 +18,12 @@ use par_passes::Passes;
 /// typing. They are the same for every plan and gate. The only other refusal is that memory is out.
 pub fn check(crew: &impl Passes, rows: &Rows, names: &Names) -> Result<Types, TypeFault>
     requires nodes { length rows.now ≤ 2 ^ 25 }
-    ensures ok { IfOk result (λ v. (p : Source) → rows.now ≡ post p → shape_faults p ≡ [] → AreNames p (λ k. slice_index_or names.now.meant k None) (λ k. slice_index_or names.now.numbers k 0) names.now.main → (type_faults p ≡ []) × (v ≡ types_of p)) }
-    ensures fault { (code at : ℕ) → result ≡ Err (Told code at) → (p : Source) → rows.now ≡ post p → shape_faults p ≡ [] → AreNames p (λ k. slice_index_or names.now.meant k None) (λ k. slice_index_or names.now.numbers k 0) names.now.main → earliest (type_faults p) ≡ Some (record { at = at; code = code }) }
+    ensures ok { IfOk result (λ v. (p : Source) → rows.now ≡ post p → shape_faults p ≡ []
+        → AreNames p (λ k. slice_index_or names.now.meant k None) (λ k. slice_index_or names.now.numbers k 0) names.now.main → (type_faults p ≡ [])
+        × (v ≡ types_of p)) }
+    ensures fault { (code at : ℕ) → result ≡ Err (Told code at) → (p : Source) → rows.now ≡ post p → shape_faults p ≡ []
+        → AreNames p (λ k. slice_index_or names.now.meant k None) (λ k. slice_index_or names.now.numbers k 0) names.now.main
+        → earliest (type_faults p) ≡ Some (record { at = at; code = code }) }
 {
     let types = types(crew, rows.kinds(), names.meant(), rows.lows())?;
     let functions = functions(crew, rows.kinds())?;
