@@ -43,9 +43,9 @@ module _ (nullable : List Bool) (owner : Claim) (spot : Spot) where
       (adds_as (λ (x : Claim). x ≡ it) (IsPassAt nullable owner spot) old (old ++ it ∷ []) (λ x h. (symbol_is, before_is, e, h)) (λ x h. h.3) (adds_one old it))
 
 -- what one place adds is what is added at its number
-pub by_spot : (spots : List Spot) (i : ℕ) (spot : Spot) (P : Spot → Claim → Type 0) (old new : List Claim) → slice_get spots i ≡ Some spot → Adds (P spot) old new → Adds (λ claim. (s : Spot) × (slice_get spots i ≡ Some s) × P s claim) old new
-by_spot spots i spot P old new is h =
-    adds_as (P spot) (λ claim. (s : Spot) × (slice_get spots i ≡ Some s) × P s claim) old new (λ x k. (spot, is, k)) (λ x k. subst (λ (s : Spot). P s x) (same_Some k.0 spot (sym k.1 ∙ is)) k.2) h
+pub by_spot : {A : Type 0} (spots : List A) (i : ℕ) (spot : A) (P : A → Claim → Type 0) (old new : List Claim) → slice_get spots i ≡ Some spot → Adds (P spot) old new → Adds (λ claim. (s : A) × (slice_get spots i ≡ Some s) × P s claim) old new
+by_spot {A} spots i spot P old new is h =
+    adds_as (P spot) (λ claim. (s : A) × (slice_get spots i ≡ Some s) × P s claim) old new (λ x k. (spot, is, k)) (λ x k. subst (λ (s : A). P s x) (same_Some k.0 spot (sym k.1 ∙ is)) k.2) h
 
 -- ---- the least that isn't covered
 

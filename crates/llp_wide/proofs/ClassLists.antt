@@ -12,8 +12,8 @@ use Rattle.llp_tables.specs.declared.cells.Members.{Members}
 use Rattle.llp_tables.proofs.CellLists.{symbol_cases}
 use Rattle.llp_wide.specs.Claims.{Claim}
 use Rattle.llp_wide.specs.Classes.{HasWideCell, AreClasses, room_in, HasAdded}
-use Rattle.llp_wide.specs.WideBehind.{WideBehind, here, through, of_start, of_begin}
-use Rattle.llp_wide.proofs.WideBounds.{place_below, place_symbol}
+use Rattle.llp_wide.specs.WideBehind.{BehindAny, WideBehind, here, through, of_start, of_begin}
+use Rattle.llp_wide.proofs.WideBounds.{place_symbol, behind_below, entered_low}
 
 get_set_same : (xs : List Members) (i : ℕ) (x : Members) → i < length xs → slice_get (set xs i x) i ≡ Some x
 get_set_same [] i x l = absurd (omega arith)
@@ -74,8 +74,8 @@ has_added old claim was now is terminals nonterminals at there left =
     others z s (inl e) (inr k) =
         inr (ap (λ n. cells_at (set old claim.before now) n s) e ∙ (ap (λ o. cells_in o s) (get_set_same old claim.before now within) ∙ (there s k ∙ (sym (ap (λ o. cells_in o s) is) ∙ ap (λ n. cells_at old n s) (sym e)))))
 
-module _ (g : Grammar) (well : IsWellFormed g) (classes : List Members) (are : AreClasses (length g.terminals + 2) (length g.nonterminals) classes) where
-  a_cell : (z : ℕ) (s : Symbol) → z < length g.terminals + 2 → ((m : Members) → slice_get classes z ≡ Some m → HasCell m s) → HasWideCell classes z s
+module _ (g : Grammar) (well : IsWellFormed g) (classes : List Members) (are : AreClasses (length g.terminals + 3) (length g.nonterminals) classes) where
+  a_cell : (z : ℕ) (s : Symbol) → z < length g.terminals + 3 → ((m : Members) → slice_get classes z ≡ Some m → HasCell m s) → HasWideCell classes z s
   a_cell z s l f = go classes z (let n = are.count in omega arith) f
     where
       go : (xs : List Members) (z : ℕ) → z < length xs → ((m : Members) → slice_get xs z ≡ Some m → HasCell m s) → HasWideCell xs z s
@@ -88,11 +88,15 @@ module _ (g : Grammar) (well : IsWellFormed g) (classes : List Members) (are : A
   symbol_cell z (Nonterminal a) h m is = subst (λ (n : ℕ). a < n) (sym (are.cells z m is).1) h
 
   -- what has a member has a cell
-  pub behind_has_cell : (z : ℕ) (s : Symbol) (b : ℕ) (w : List Symbol) → WideBehind g z s b w → HasWideCell classes z s
-  behind_has_cell _ _ _ _ (here z0 owner z s after beta rest b place parts begins) = a_cell z s (place_below g well z0 owner z s after place) (symbol_cell z s (place_symbol g well z0 owner z s after place))
-  behind_has_cell _ _ _ _ (through z0 owner z s after beta b place vanish inner) = a_cell z s (place_below g well z0 owner z s after place) (symbol_cell z s (place_symbol g well z0 owner z s after place))
-  behind_has_cell _ _ _ _ of_start = a_cell begin_mark (Nonterminal 0) (omega arith) (symbol_cell begin_mark (Nonterminal 0) well.has_start)
-  behind_has_cell _ _ _ _ (of_begin beta rest b parts begins) = a_cell begin_mark (Terminal begin_mark) (omega arith) (λ m is. let n = (are.cells begin_mark m is).0 in omega arith)
+  behind_symbol : (z : ℕ) (s : Symbol) (b : ℕ) (w : List Symbol) → WideBehind g z s b w → (m : Members) → slice_get classes z ≡ Some m → HasCell m s
+  behind_symbol _ _ _ _ (here z0 owner z s after beta rest b place parts begins) = symbol_cell z s (place_symbol g well z0 owner z s after place)
+  behind_symbol _ _ _ _ (through z0 owner z s after beta b place vanish inner) = symbol_cell z s (place_symbol g well z0 owner z s after place)
+  behind_symbol _ _ _ _ of_start = symbol_cell begin_mark (Nonterminal 0) well.has_start
+  behind_symbol _ _ _ _ (of_begin beta rest b parts begins) = λ m is. let n = (are.cells begin_mark m is).0 in omega arith
+
+  pub behind_has_cell : (z : ℕ) (s : Symbol) (b : ℕ) (w : List Symbol) → BehindAny g z s b w → HasWideCell classes z s
+  behind_has_cell z s b w (inl h) = a_cell z s (let l = behind_below g well z s b w h in omega arith) (behind_symbol z s b w h)
+  behind_has_cell z s b w (inr (is, a, a_is, y, entered, h)) = a_cell z s (let l : z ≡ length g.terminals + 2 = is in omega arith) (subst (λ (t : Symbol). (m : Members) → slice_get classes z ≡ Some m → HasCell m t) (sym a_is) (symbol_cell z (Nonterminal a) (entered_low g well y a entered)))
 
 pub wide_room_less : (old new : List Members) (claim : Claim) → HasAdded old new claim → room (cells_at old claim.before claim.symbol) ≡ suc (room (add claim.stack (cells_at old claim.before claim.symbol))) → room_in new < room_in old
 wide_room_less old new claim h left = let e : room (cells_at new claim.before claim.symbol) ≡ room (add claim.stack (cells_at old claim.before claim.symbol)) = ap room h.at in let s = h.room_is in omega arith

@@ -12,7 +12,7 @@ ghost use Rattle.llp_wide.specs.Wide.{IsLeastWideConflict, IsWideLlp};
 ghost use Rattle.llp_wide.specs.WideConflicts.{IsLeastTwoIn, IsLesserPair, LeastWideBelow, LeastWideOn, TellWide};
 
 use crate::members::members_on;
-use crate::places::Place;
+use crate::places::Group;
 use grammar_file::{Grammar, Symbol};
 use llp_tables::{Members, Stack, two_of};
 use std::alloc::{AllocError, Global};
@@ -114,7 +114,7 @@ pub(crate) fn least_wide_conflict(
     alloc: Global,
     grammar: &Grammar,
     nullable: &[bool],
-    places: &[Place],
+    places: &[Group],
 ) -> Result<Option<WideConflict>, AllocError>
     requires well_formed { IsWellFormed grammar.now }
     requires nullable { AreMarksOf grammar.now (λ a. IsNullable grammar.now (AnyNonterminal a ∷ [])) nullable.now }

@@ -15,7 +15,7 @@ ghost use Rattle.llp_wide.specs.declared.fault.WideFault.TheVariants.{Wide as An
 use crate::conflicts::{WideConflict, least_wide_conflict};
 use crate::endings::endings;
 use crate::fault::{WideFault, prediction_fault};
-use crate::places::Place;
+use crate::places::Group;
 use crate::survey::places;
 use crate::triples::{all_triples, width_of};
 use crate::wide_table::WideTables;
@@ -41,7 +41,7 @@ fn wide_tables_by(
     alloc: Global,
     grammar: &Grammar,
     nullable: &[bool],
-    places: &[Place],
+    places: &[Group],
 ) -> Result<WideTables, AllocError>
     requires well_formed { IsWellFormed grammar.now }
     requires ll1 { IsLl1 grammar.now }

@@ -12,7 +12,7 @@ ghost use Rattle.llp_wide.specs.Wide.{IsWideLookback};
 ghost use Rattle.llp_wide.specs.WideConflicts.{TellWide};
 
 use crate::endings::endings;
-use crate::places::Place;
+use crate::places::Group;
 use crate::search::least_wide_members;
 use crate::survey::places;
 use grammar_file::Grammar;
@@ -24,7 +24,7 @@ pub(crate) fn members_on(
     alloc: Global,
     grammar: &Grammar,
     nullable: &[bool],
-    places: &[Place],
+    places: &[Group],
     b: u16,
 ) -> Result<Vec<Members>, AllocError>
     requires well_formed { IsWellFormed grammar.now }

@@ -15,7 +15,7 @@ ghost use Rattle.llp_wide.specs.WideEntries.{triple_place};
 
 use crate::members::members_on;
 use crate::pieces::{Ahead, WidePiece, sets_ahead, triple_number};
-use crate::places::Place;
+use crate::places::Group;
 use grammar_file::Grammar;
 use llp_tables::{Members, empty_lengths};
 use std::alloc::{AllocError, Global};
@@ -132,7 +132,7 @@ pub(crate) fn all_triples(
     alloc: Global,
     grammar: &Grammar,
     nullable: &[bool],
-    places: &[Place],
+    places: &[Group],
 ) -> Result<Triples, AllocError>
     requires well_formed { IsWellFormed grammar.now }
     requires ll1 { IsLl1 grammar.now }
