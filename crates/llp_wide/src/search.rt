@@ -10,7 +10,7 @@ ghost use Rattle.llp_tables.specs.Predict.{IsNullable, IsFirst};
 ghost use Rattle.llp_tables.specs.Slots.{Empty as EmptySlots, covers};
 ghost use Rattle.llp_wide.specs.Claims.{AreLeastWide, IsLeastClaim, IsPassOf};
 ghost use Rattle.llp_wide.specs.Added.{Adds};
-ghost use Rattle.llp_wide.specs.Classes.{HasWideCell, HasAdded, AreClasses, room_in};
+ghost use Rattle.llp_wide.specs.Classes.{HasWideCell, HasAdded, HasOpened, AreClasses, IsOpen, room_in};
 ghost use Rattle.llp_wide.specs.Places.{AreSpots, spots_behind};
 ghost use Rattle.llp_wide.specs.Settling.{IsWideSettling};
 
@@ -20,21 +20,44 @@ use grammar_file::{Grammar, Symbol};
 use llp_tables::Members;
 use std::alloc::{AllocError, Global};
 
-// Cells with nothing in them, a class of them for each terminal that may be matched last.
-fn empty_classes(
-    alloc: Global,
-    terminals: usize,
-    nonterminals: usize,
-) -> Result<Vec<Members>, AllocError>
-    ensures classes { IfOk result (λ v. AreClasses terminals nonterminals v.items) }
+// A class for each terminal that may be matched last, with no cells yet.
+fn empty_classes(alloc: Global, terminals: usize) -> Result<Vec<Members>, AllocError>
+    ensures classes { IfOk result (λ v. (nonterminals : ℕ) → AreClasses terminals nonterminals v.items) }
     ensures empty { IfOk result (λ v. (z : ℕ) (s : AnySymbol) → cells_at v.items z s ≡ EmptySlots) }
 {
     let mut classes = Vec::new(alloc);
     for _ in 0..terminals {
-        let members = Members::new(alloc, terminals, nonterminals)?;
+        let members = Members::new(alloc, 0, 0)?;
         classes.push(members)?;
     }
     Ok(classes)
+}
+
+// Whether a class has no cells.
+fn is_closed(members: &Members) -> bool
+    ensures closed { result ≡ true → IsOpen 0 0 members.now }
+    ensures open { result ≡ false → IsOpen 0 0 members.now → ⊥ }
+{
+    members.terminals.is_empty() && members.nonterminals.is_empty()
+}
+
+// Gives the class of z its cells, if it has none.
+fn open(
+    alloc: Global,
+    classes: &mut Vec<Members>,
+    z: u16,
+    terminals: usize,
+    nonterminals: usize,
+) -> Result<(), AllocError>
+    requires { z < length classes.old.items }
+    ensures { OnOk result (HasOpened terminals nonterminals classes.old.items classes.new.items z) }
+{
+    if !is_closed(&classes[z as usize]) {
+        return Ok(());
+    }
+    let members = Members::new(alloc, terminals, nonterminals)?;
+    classes[z as usize] = members;
+    Ok(())
 }
 
 // Adds a string to the cell of its symbol, where there is room for it.
@@ -126,7 +149,7 @@ fn take(
     requires least { IsLeastClaim waiting.old.items (cells_at classes.old.items) claim }
     ensures classes { OnOk result (AreClasses (length ground.now.grammar.now.terminals + 3) (length ground.now.grammar.now.nonterminals) classes.new.items) }
     ensures settling { OnOk result (IsWideSettling ground.now.grammar.now ground.now.nullable.now ground.now.first.now ground.now.b ground.now.groups.now claim.stack (cells_at classes.new.items) waiting.new.items) }
-    ensures room { OnOk result (room_in classes.new.items < room_in classes.old.items) }
+    ensures room { OnOk result (room_in (length ground.now.grammar.now.terminals + 3) (length ground.now.grammar.now.nonterminals) classes.new.items < room_in (length ground.now.grammar.now.terminals + 3) (length ground.now.grammar.now.nonterminals) classes.old.items) }
 {
     let count = ground.grammar.nonterminal_count();
     pass_on(
@@ -137,6 +160,8 @@ fn take(
         &claim,
         waiting,
     )?;
+    let terminals = ground.grammar.terminals().len() + 3;
+    open(alloc, classes, claim.before, terminals, count as usize)?;
     add(classes, claim);
     Ok(())
 }
@@ -166,7 +191,7 @@ fn take_at(
     requires settling { IsWideSettling ground.now.grammar.now ground.now.nullable.now ground.now.first.now ground.now.b ground.now.groups.now stack.now (cells_at classes.old.items) waiting.old.items }
     ensures classes { OnOk result (AreClasses (length ground.now.grammar.now.terminals + 3) (length ground.now.grammar.now.nonterminals) classes.new.items) }
     ensures settling { OnOk result (IsWideSettling ground.now.grammar.now ground.now.nullable.now ground.now.first.now ground.now.b ground.now.groups.now stack.now (cells_at classes.new.items) waiting.new.items) }
-    ensures room { OnOk result (room_in classes.new.items ≤ room_in classes.old.items) }
+    ensures room { OnOk result (room_in (length ground.now.grammar.now.terminals + 3) (length ground.now.grammar.now.nonterminals) classes.new.items ≤ room_in (length ground.now.grammar.now.terminals + 3) (length ground.now.grammar.now.nonterminals) classes.old.items) }
 {
     let Some(next) = waiting.get(i) else {
         return Ok(());
@@ -194,7 +219,7 @@ fn take_same(
     requires settling { IsWideSettling ground.now.grammar.now ground.now.nullable.now ground.now.first.now ground.now.b ground.now.groups.now stack.now (cells_at classes.old.items) waiting.old.items }
     ensures classes { OnOk result (AreClasses (length ground.now.grammar.now.terminals + 3) (length ground.now.grammar.now.nonterminals) classes.new.items) }
     ensures settling { OnOk result (IsWideSettling ground.now.grammar.now ground.now.nullable.now ground.now.first.now ground.now.b ground.now.groups.now stack.now (cells_at classes.new.items) waiting.new.items) }
-    ensures room { OnOk result (room_in classes.new.items ≤ room_in classes.old.items) }
+    ensures room { OnOk result (room_in (length ground.now.grammar.now.terminals + 3) (length ground.now.grammar.now.nonterminals) classes.new.items ≤ room_in (length ground.now.grammar.now.terminals + 3) (length ground.now.grammar.now.nonterminals) classes.old.items) }
 {
     for i in 0..waiting.len() {
         take_at(alloc, ground, stack, i, classes, waiting)?;
@@ -226,7 +251,7 @@ pub(crate) fn least_wide_members(
         b,
     };
     let terminals = grammar.terminals().len() + 3;
-    let mut classes = empty_classes(alloc, terminals, grammar.nonterminals().len())?;
+    let mut classes = empty_classes(alloc, terminals)?;
     let mut waiting = first_waiting(alloc, grammar, nullable, first, groups, b)?;
     while let Some(least) = least_waiting(classes.as_slice(), waiting.as_slice()) {
         let claim = copied(alloc, least)?;

@@ -9,7 +9,7 @@ use Rattle.llp_wide.proofs.search.least_wide_members.Goals as goal
 pub loop-least-init : goal.loop-least-init
 loop-least-init c =
     record {
-      classes = subst (λ (t : ℕ × ℕ). AreClasses t.0 t.1 c.in_ok-classes.classes.items) (λ i. (length (c.terminals.ensures.names i) + 3, length (c.nonterminals.ensures.names i))) c.in_ok-classes.ensures.classes;
+      classes = subst (λ (t : ℕ). AreClasses t (length c.args.grammar.now.nonterminals) c.in_ok-classes.classes.items) (λ i. length (c.terminals.ensures.names i) + 3) (c.in_ok-classes.ensures.classes (length c.args.grammar.now.nonterminals));
       settling = (
         [],
         wide_settling_start c.args.grammar.now c.args.nullable.now c.args.first.now c.args.b c.args.groups.now c.requires.well_formed c.requires.nullable c.requires.first c.requires.places (cells_at c.in_ok-classes.classes.items) c.in_ok-waiting.waiting.items c.in_ok-classes.ensures.empty

@@ -13,4 +13,4 @@ invariant-loop-least l =
     }
 
 abbrev pub decreases-loop-least : goal.decreases-loop-least
-decreases-loop-least l = room_in l.classes.items
+decreases-loop-least l = room_in (length l.grammar.terminals + 3) (length l.grammar.nonterminals) l.classes.items

@@ -9,5 +9,5 @@ invariant-loop-i l =
     record {
       classes : AreClasses (length l.ground.grammar.now.terminals + 3) (length l.ground.grammar.now.nonterminals) l.classes.items;
       settling : IsWideSettling l.ground.grammar.now l.ground.nullable.now l.ground.first.now l.ground.b l.ground.groups.now l.stack (cells_at l.classes.items) l.waiting.items;
-      room : room_in l.classes.items ≤ room_in l.fn.classes.items;
+      room : room_in (length l.ground.grammar.now.terminals + 3) (length l.ground.grammar.now.nonterminals) l.classes.items ≤ room_in (length l.ground.grammar.now.terminals + 3) (length l.ground.grammar.now.nonterminals) l.fn.classes.items;
     }
