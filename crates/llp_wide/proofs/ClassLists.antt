@@ -4,7 +4,7 @@ use Rattle.std.proofs.lemmas.Bool.{true≢false}
 use Rattle.std.proofs.lemmas.Option.{same_Some, slice_get_within}
 use Rattle.grammar_file.specs.declared.symbols.Symbol.{Symbol}
 use Rattle.grammar_file.specs.declared.symbols.Symbol.TheVariants.{Terminal, Nonterminal}
-use Rattle.grammar_file.specs.Grammar.{Grammar, begin_mark, IsSymbol, IsWellFormed}
+use Rattle.grammar_file.specs.Grammar.{Grammar, IsSymbol, IsWellFormed}
 use Rattle.llp_tables.specs.CellSlots.{slots_of, cell_at, cell_of, HasCell, room_at, room_of}
 use Rattle.llp_tables.specs.Lookbacks.{cells_in, cells_at}
 use Rattle.llp_tables.specs.Slots.{Empty, add, room}

@@ -1,5 +1,5 @@
 -- Right sides that are walked from the start on give all places.
-use Rattle.std.proofs.Common.{◌≡◌, ◌≢◌, ℕ, zero, suc, ◌+◌, ◌*◌, ◌<◌, ◌≤◌, ◌⊎◌, inl, inr, ⊎_elim, List, [], ◌∷◌, ◌++◌, length, set, length-set, take, drop, get_or, get_or-set_other, get_or-set_same, Bool, true, false, ◌&&◌, ◌==◌, eqb, eqb-true, eq-eqb, if◌then◌else◌, Some, slice_get, slice_index_or, refl, sym, ap, ◌∙◌, subst, arith}
+use Rattle.std.proofs.Common.{◌≡◌, ◌≢◌, ℕ, zero, suc, ◌+◌, ◌*◌, ◌<◌, ◌⊎◌, inl, inr, ⊎_elim, List, [], ◌∷◌, ◌++◌, length, set, length-set, take, drop, get_or, get_or-set_other, get_or-set_same, Bool, true, false, ◌&&◌, ◌==◌, eqb, eqb-true, eq-eqb, if◌then◌else◌, Some, slice_get, slice_index_or, refl, sym, ap, ◌∙◌, subst, arith}
 use Rattle.std.specs.List.{AllByRecursion}
 use Rattle.std.proofs.Math.Seq.{take-append_seam}
 use Rattle.std.proofs.lemmas.Bool.{true≢false}
@@ -25,7 +25,7 @@ use Rattle.llp_wide.proofs.Additions.{in_parts, in_last, in_still}
 use Rattle.llp_wide.proofs.Finding.{within_product, same_place, in_at, at_in}
 use Rattle.llp_wide.proofs.LastSets.{ending_is, ending_tests}
 use Rattle.llp_wide.proofs.Stacks.{Stands, stands_first, stands_match, entered_of_stands, stands_of_entered}
-use Rattle.llp_wide.proofs.WideBounds.{place_below, place_symbol, front_all, entered_below, entered_low, entered_not_any, by_below, by_low}
+use Rattle.llp_wide.proofs.WideBounds.{place_below, front_all, entered_below, entered_low, entered_not_any, by_below, by_low}
 use Rattle.llp_wide.proofs.WideRules.{Ruled, ruled_stands, at_place, ending_mark}
 
 abbrev pub start : Entrance

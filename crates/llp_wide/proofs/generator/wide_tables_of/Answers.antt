@@ -1,5 +1,4 @@
-use Rattle.std.proofs.Common.{◌≡◌, map, sym, ap, subst, arith, ◌∙◌}
-use Rattle.std.specs.Prelude.{IfSome}
+use Rattle.std.proofs.Common.{map, sym, ap, subst, ◌∙◌}
 use Rattle.llp_tables.specs.PieceRows.{width_of}
 use Rattle.llp_wide.specs.Triples.{AreLayers, entry_at}
 use Rattle.llp_wide.specs.WideEntries.{AreWideTablesOf}

@@ -1,7 +1,6 @@
 use Rattle.std.proofs.Common.{◌++◌, ◌∷◌, [], List, length, ap, ◌∙◌}
 use Rattle.grammar_file.specs.declared.symbols.Symbol.{Symbol}
 use Rattle.grammar_file.specs.declared.symbols.Symbol.TheVariants.{Nonterminal}
-use Rattle.llp_wide.specs.Places.{Spot}
 use Rattle.llp_wide.proofs.SpotLists.{gathering_added}
 use Rattle.llp_wide.proofs.places.add_gathering.Goals as goal
 

@@ -1,4 +1,4 @@
-use Rattle.std.proofs.Common.{◌≡◌, ◌+◌, ◌<◌, ◌⊎◌, inl, inr, ⊎_elim, ℕ, suc, length, sym, ap, subst, ◌∙◌}
+use Rattle.std.proofs.Common.{◌≡◌, ◌+◌, ◌<◌, inl, inr, ⊎_elim, ℕ, suc, length, sym, ap, subst, ◌∙◌}
 use Rattle.grammar_file.specs.declared.symbols.Symbol.{Symbol}
 use Rattle.llp_tables.specs.Lookbacks.{cells_at}
 use Rattle.llp_tables.specs.Slots.{Slots, add, room}

@@ -1,4 +1,4 @@
-use Rattle.std.proofs.Common.{ap, length, arith}
+use Rattle.std.proofs.Common.{arith}
 use Rattle.llp_wide.proofs.Conflicting.{wide_matched}
 use Rattle.llp_wide.proofs.triples.conflict_or_triples.Goals as goal
 

@@ -1,4 +1,4 @@
-use Rattle.std.proofs.Common.{◌+◌, ◌<◌, Option, subst, arith}
+use Rattle.std.proofs.Common.{◌+◌, Option, subst, arith}
 use Rattle.llp_wide.specs.declared.conflicts.WideConflict.{WideConflict}
 use Rattle.llp_wide.specs.WideConflicts.{LeastWideBelow}
 use Rattle.llp_wide.proofs.triples.is_added.Goals as goal
