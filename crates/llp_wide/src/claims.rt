@@ -72,7 +72,7 @@ fn add_stop(
     Ok(())
 }
 
-// Adds each front of `after` at whose last symbol b may begin.
+// Adds each front of `after` at whose last symbol b may begin: up to the first symbol that can't vanish.
 fn add_stops(
     alloc: Global,
     nullable: &[bool],
@@ -87,6 +87,9 @@ fn add_stops(
 {
     for j in 0..after.len() {
         add_stop(alloc, nullable, first, b, after, before, symbol, j, waiting)?;
+        if !all_vanish(nullable, &after[..j + 1]) {
+            return Ok(());
+        }
     }
     Ok(())
 }
