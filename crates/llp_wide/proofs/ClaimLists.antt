@@ -1,18 +1,19 @@
 -- Claims that are added.
-use Rattle.std.proofs.Common.{◌≡◌, ℕ, ◌+◌, ◌⊎◌, inl, inr, ⊎_elim, List, [], ◌∷◌, ◌++◌, take, Bool, true, false, Some, slice_get, refl, sym, ap, ◌∙◌, subst}
-use Rattle.std.proofs.lemmas.Bool.{true≢false}
+use Rattle.std.proofs.Common.{◌≡◌, ℕ, zero, suc, ◌+◌, ◌<◌, ◌≤◌, ◌⊎◌, inl, inr, ⊎_elim, List, [], ◌∷◌, ◌++◌, length, take, Bool, true, false, Some, slice_get, refl, sym, ap, ◌∙◌, subst, arith}
+use Rattle.std.proofs.lemmas.Bool.{cases_lt, true≢false}
 use Rattle.std.proofs.lemmas.Option.{same_Some}
 use Rattle.grammar_file.specs.declared.symbols.Symbol.{Symbol}
 use Rattle.grammar_file.specs.declared.symbols.Symbol.TheVariants.{Nonterminal}
 use Rattle.llp_tables.specs.Cells.{IsBefore}
 use Rattle.llp_tables.specs.Forced.{is_stop}
-use Rattle.ll1_sets.specs.Marking.{all_vanish}
+use Rattle.ll1_sets.specs.Marking.{vanishes, all_vanish, starts}
 use Rattle.llp_tables.specs.Slots.{Slots, covers}
 use Rattle.llp_tables.specs.Tables.{stack_lt}
+use Rattle.ll1_sets.proofs.FormTests.{both, and}
 use Rattle.llp_tables.proofs.StackOrder.{before_not_itself, before_trans}
-use Rattle.llp_wide.specs.Added.{IsIn, Adds}
+use Rattle.llp_wide.specs.Added.{IsIn, Adds, SomeBelow}
 use Rattle.llp_wide.specs.Places.{Spot}
-use Rattle.llp_wide.specs.Claims.{Claim, IsStopAt, IsPassAt, AreClaimsCovered, IsLeastClaim}
+use Rattle.llp_wide.specs.Claims.{Claim, IsStopAt, IsStopIn, IsPassAt, AreClaimsCovered, IsLeastClaim}
 use Rattle.llp_wide.proofs.Additions.{in_parts, in_still, in_last, adds_one, adds_none, adds_as}
 
 module _ (nullable first : List Bool) (b : ℕ) (after : List Symbol) (before : ℕ) (symbol : Symbol) (j : ℕ) (last : Symbol) (last_is : slice_get after j ≡ Some last) where
@@ -26,6 +27,25 @@ module _ (nullable first : List Bool) (b : ℕ) (after : List Symbol) (before : 
       let grown_it : new ≡ old ++ it ∷ [] = grown ∙ ap (λ (w : List Symbol). old ++ (record { before = before; symbol = symbol; stack = w }) ∷ []) stack_is in
       subst (λ (xs : List Claim). Adds (IsStopAt nullable first b after before symbol j) old xs) (sym grown_it)
       (adds_as (λ (x : Claim). x ≡ it) (IsStopAt nullable first b after before symbol j) old (old ++ it ∷ []) (λ x h. (last, last_is, e, h)) (λ x h. h.3) (adds_one old it))
+
+vanish_front : (nullable : List Bool) (xs : List Symbol) (n k : ℕ) → n ≤ k → all_vanish nullable (take k xs) ≡ true → all_vanish nullable (take n xs) ≡ true
+vanish_front nullable xs zero k l h = refl
+vanish_front nullable [] (suc n) k l h = refl
+vanish_front nullable (x ∷ xs) (suc n) zero l h = absurd (omega arith)
+vanish_front nullable (x ∷ xs) (suc n) (suc k) l h =
+    let t = both (vanishes nullable x) (all_vanish nullable (take k xs)) h in and (vanishes nullable x) (all_vanish nullable (take n xs)) t.0 (vanish_front nullable xs n k (omega arith) t.1)
+
+-- b begins behind no symbol that can't vanish
+pub last_stop : (nullable first : List Bool) (b : ℕ) (after : List Symbol) (before : ℕ) (symbol : Symbol) (j : ℕ) (old new : List Claim) → j < length after → all_vanish nullable (take (j + 1) after) ≡ false
+    → Adds (SomeBelow (j + 1) (IsStopAt nullable first b after before symbol)) old new → Adds (IsStopIn nullable first b after before symbol) old new
+last_stop nullable first b after before symbol j old new j_below e h =
+    adds_as (SomeBelow (j + 1) (IsStopAt nullable first b after before symbol)) (IsStopIn nullable first b after before symbol) old new (λ x t. (t.0, (let l : t.0 < j + 1 = t.1 in omega arith), t.2)) back h
+  where
+    back : (x : Claim) → IsStopIn nullable first b after before symbol x → SomeBelow (j + 1) (IsStopAt nullable first b after before symbol) x
+    back x t =
+        ⊎_elim (λ (l : t.0 < j + 1). (t.0, l, t.2))
+        (λ (l : j + 1 ≤ t.0). absurd (true≢false (sym (vanish_front nullable after (j + 1) t.0 l (both (all_vanish nullable (take t.0 after)) (starts first b t.2.0) t.2.2).0) ∙ e)))
+        (cases_lt t.0 (j + 1))
 
 module _ (nullable : List Bool) (owner : Claim) (spot : Spot) where
   pub not_owner : (old : List Claim) → (owner.symbol ≡ Nonterminal spot.owner.nonterminal → owner.before ≡ spot.owner.before → ⊥) → Adds (IsPassAt nullable owner spot) old old
@@ -43,9 +63,9 @@ module _ (nullable : List Bool) (owner : Claim) (spot : Spot) where
       (adds_as (λ (x : Claim). x ≡ it) (IsPassAt nullable owner spot) old (old ++ it ∷ []) (λ x h. (symbol_is, before_is, e, h)) (λ x h. h.3) (adds_one old it))
 
 -- what one place adds is what is added at its number
-pub by_spot : (spots : List Spot) (i : ℕ) (spot : Spot) (P : Spot → Claim → Type 0) (old new : List Claim) → slice_get spots i ≡ Some spot → Adds (P spot) old new → Adds (λ claim. (s : Spot) × (slice_get spots i ≡ Some s) × P s claim) old new
-by_spot spots i spot P old new is h =
-    adds_as (P spot) (λ claim. (s : Spot) × (slice_get spots i ≡ Some s) × P s claim) old new (λ x k. (spot, is, k)) (λ x k. subst (λ (s : Spot). P s x) (same_Some k.0 spot (sym k.1 ∙ is)) k.2) h
+pub by_spot : {A : Type 0} (spots : List A) (i : ℕ) (spot : A) (P : A → Claim → Type 0) (old new : List Claim) → slice_get spots i ≡ Some spot → Adds (P spot) old new → Adds (λ claim. (s : A) × (slice_get spots i ≡ Some s) × P s claim) old new
+by_spot {A} spots i spot P old new is h =
+    adds_as (P spot) (λ claim. (s : A) × (slice_get spots i ≡ Some s) × P s claim) old new (λ x k. (spot, is, k)) (λ x k. subst (λ (s : A). P s x) (same_Some k.0 spot (sym k.1 ∙ is)) k.2) h
 
 -- ---- the least that isn't covered
 

@@ -1,5 +1,5 @@
 -- Right sides that are walked from the start on give all places.
-use Rattle.std.proofs.Common.{◌≡◌, ℕ, zero, suc, ◌+◌, ◌*◌, ◌<◌, ◌⊎◌, inl, inr, ⊎_elim, List, [], ◌∷◌, ◌++◌, length, take, drop, get_or, Bool, true, false, Some, slice_get, refl, sym, ap, ◌∙◌, subst, arith}
+use Rattle.std.proofs.Common.{◌≡◌, ◌≢◌, ℕ, zero, suc, ◌+◌, ◌*◌, ◌<◌, ◌⊎◌, inl, inr, ⊎_elim, List, [], ◌∷◌, ◌++◌, length, set, length-set, take, drop, get_or, get_or-set_other, get_or-set_same, Bool, true, false, ◌&&◌, ◌==◌, eqb, eqb-true, eq-eqb, if◌then◌else◌, Some, slice_get, slice_index_or, refl, sym, ap, ◌∙◌, subst, arith}
 use Rattle.std.specs.List.{AllByRecursion}
 use Rattle.std.proofs.Math.Seq.{take-append_seam}
 use Rattle.std.proofs.lemmas.Bool.{true≢false}
@@ -12,80 +12,129 @@ use Rattle.grammar_file.specs.Marks.{AreMarksOf}
 use Rattle.grammar_file.specs.Spelling.{IsReduced}
 use Rattle.grammar_file.proofs.Words.{same_head, same_tail, same_nonterminal, terminal-nonterminal, nil-cons}
 use Rattle.ll1_sets.proofs.FollowMarks.{parts_of, symbol_at, rest_at}
-use Rattle.ll1_sets.proofs.FormTests.{Nullable}
+use Rattle.ll1_sets.specs.Marking.{all_vanish}
+use Rattle.ll1_sets.proofs.FormTests.{Nullable, and, both, either, or_left, or_right}
 use Rattle.llp_wide.specs.declared.endings.LastMarks.{LastMarks}
 use Rattle.llp_wide.specs.declared.places.Entrance.{Entrance}
 use Rattle.llp_wide.specs.Added.{IsIn, Adds}
-use Rattle.llp_wide.specs.Endings.{is_ending, marks_at, AreEndings}
-use Rattle.llp_wide.specs.Places.{Spot, IsSpotAt, IsSpotUnder, AreSpots}
+use Rattle.llp_wide.specs.Endings.{finishes, is_ending, is_reached, marks_at, AreEndings}
+use Rattle.llp_wide.specs.Places.{Spot, IsSpotAt, IsSpotUnder, IsSpotOn, spots_of, IsSoundSpot, own, gathers, shared, AreSpots}
 use Rattle.llp_wide.specs.Surveys.{place_of, IsFound, Finds, Opens, OpensIn, HaveRoom}
-use Rattle.llp_wide.specs.WideBehind.{IsEnding, IsEntered, IsWidePlace}
-use Rattle.llp_wide.proofs.Additions.{in_parts}
-use Rattle.llp_wide.proofs.Finding.{within_product, in_at, at_in}
+use Rattle.llp_wide.specs.WideBehind.{any_before, IsEnding, IsEntered, IsEnteredBy, IsWidePlace}
+use Rattle.llp_wide.proofs.Additions.{in_parts, in_last, in_still}
+use Rattle.llp_wide.proofs.Finding.{within_product, same_place, in_at, at_in}
 use Rattle.llp_wide.proofs.LastSets.{ending_is, ending_tests}
 use Rattle.llp_wide.proofs.Stacks.{Stands, stands_first, stands_match, entered_of_stands, stands_of_entered}
-use Rattle.llp_wide.proofs.WideBounds.{place_below, place_symbol, front_all}
+use Rattle.llp_wide.proofs.WideBounds.{place_below, front_all, entered_below, entered_low, entered_not_any, by_below, by_low}
 use Rattle.llp_wide.proofs.WideRules.{Ruled, ruled_stands, at_place, ending_mark}
 
 abbrev pub start : Entrance
 start = record { before = 0; nonterminal = 0 }
 
--- of two lists together
-pub in_both : {A : Type 0} (xs ys : List A) (x : A) → IsIn (xs ++ ys) x → IsIn xs x ⊎ IsIn ys x
-in_both {A} [] ys x h = inr h
-in_both {A} (y ∷ xs) ys x (inl h) = inl (inl h)
-in_both {A} (y ∷ xs) ys x (inr h) = ⊎_elim (λ (k : IsIn xs x). inl (inr k)) (λ (k : IsIn ys x). inr k) (in_both xs ys x h)
+unequal : (x y : ℕ) → x < y → (x == y) ≡ false
+unequal x y l = go (x == y) refl
+  where
+    go : (b : Bool) → (x == y) ≡ b → (x == y) ≡ false
+    go true e = absurd (let same : x ≡ y = eqb-true x y e in omega arith)
+    go false e = e
 
-pub in_first : {A : Type 0} (xs ys : List A) (x : A) → IsIn xs x → IsIn (xs ++ ys) x
-in_first {A} [] ys x h = absurd h
-in_first {A} (y ∷ xs) ys x (inl h) = inl h
-in_first {A} (y ∷ xs) ys x (inr h) = inr (in_first xs ys x h)
+module _ (nullable : List Bool) (all : List LastMarks) where
+  reached : (z y : ℕ) (form : List Symbol) → is_reached nullable all z y form ≡ true → ((z ≡ length all) × (finishes nullable (marks_at all y) y form ≡ true)) ⊎ ((z ≡ y) × (all_vanish nullable form ≡ true))
+  reached z y form h = go (z == length all) refl h
+    where
+      go : (b : Bool) → (z == length all) ≡ b → (if b then finishes nullable (marks_at all y) y form else ((z == y) && all_vanish nullable form)) ≡ true
+          → ((z ≡ length all) × (finishes nullable (marks_at all y) y form ≡ true)) ⊎ ((z ≡ y) × (all_vanish nullable form ≡ true))
+      go true e k = inl (eqb-true z (length all) e, k)
+      go false e k = let t = both (z == y) (all_vanish nullable form) k in inr (eqb-true z y t.0, t.1)
 
-pub in_second : {A : Type 0} (xs ys : List A) (x : A) → IsIn ys x → IsIn (xs ++ ys) x
-in_second {A} [] ys x h = h
-in_second {A} (y ∷ xs) ys x h = inr (in_second xs ys x h)
+  reached_any : (z y : ℕ) (form : List Symbol) → z ≡ length all → finishes nullable (marks_at all y) y form ≡ true → is_reached nullable all z y form ≡ true
+  reached_any z y form is h = ap (λ (b : Bool). if b then finishes nullable (marks_at all y) y form else ((z == y) && all_vanish nullable form)) (eq-eqb z (length all) is) ∙ h
+
+  reached_own : (z y : ℕ) (form : List Symbol) → z < length all → ((z == y) && all_vanish nullable form) ≡ true → is_reached nullable all z y form ≡ true
+  reached_own z y form l h = ap (λ (b : Bool). if b then finishes nullable (marks_at all y) y form else ((z == y) && all_vanish nullable form)) (unequal z (length all) l) ∙ h
+
+-- an owner's spots in a list where one is set
+module _ (groups : List (List Spot)) (p : ℕ) (found : List Spot) (within : p < length groups) where
+  in_set : (n : ℕ) (spot : Spot) → IsIn (slice_index_or (set groups p found) n []) spot → IsIn (slice_index_or groups n []) spot ⊎ IsIn found spot
+  in_set n spot h = go (eqb n p) refl
+    where
+      go : (b : Bool) → eqb n p ≡ b → IsIn (slice_index_or groups n []) spot ⊎ IsIn found spot
+      go true e = inr (subst (λ (xs : List Spot). IsIn xs spot) (ap (λ (k : ℕ). get_or (set groups p found) k []) (eqb-true n p e) ∙ get_or-set_same groups p found [] within) h)
+      go false e = let ne : n ≢ p = λ same. true≢false (sym (eq-eqb n p same) ∙ e) in inl (subst (λ (xs : List Spot). IsIn xs spot) (get_or-set_other groups p n found [] ne) h)
 
 module _ (g : Grammar) (nullable : List Bool) (all : List LastMarks) where
-  abbrev pub IsSound : Spot → Type 0
-  IsSound spot = IsWidePlace g spot.owner.before spot.owner.nonterminal spot.before spot.symbol spot.after
-
   abbrev pub IsUnder : Entrance → Spot → Type 0
-  IsUnder = IsSpotUnder nullable all g.productions
+  IsUnder = IsSpotOn nullable all g.productions
 
   abbrev pub Seen : List Bool → Entrance → Type 0
   Seen marks e = IsFound (length g.nonterminals) marks e ⊎ (e ≡ start)
 
-  abbrev pub Done : List Spot → Entrance → Type 0
-  Done spots e = (spot : Spot) → IsUnder e spot → IsIn spots spot
+  abbrev pub Done : List (List Spot) → Entrance → Type 0
+  Done groups e = (spot : Spot) → IsUnder e spot → IsIn (spots_of (length g.nonterminals) groups e.before e.nonterminal) spot
 
   -- What is found is still to be walked, or its places are there. What the places open is found.
-  pub record IsSurvey (marks : List Bool) (waiting : List Entrance) (spots : List Spot) : Type 0 where
-    pub size : length marks ≡ (length g.terminals + 2) * length g.nonterminals
-    pub entered : (e : Entrance) → IsIn waiting e → IsEntered g e.before e.nonterminal
-    pub sound : (spot : Spot) → IsIn spots spot → IsSound spot
-    pub seen : (e : Entrance) → e.nonterminal < length g.nonterminals → Seen marks e → IsIn waiting e ⊎ Done spots e
-    pub closed : (spot : Spot) → IsIn spots spot → (e : Entrance) → Opens spot e → IsFound (length g.nonterminals) marks e
+  pub record IsSurvey (marks : List Bool) (waiting : List Entrance) (groups : List (List Spot)) : Type 0 where
+    pub size : length marks ≡ (length g.terminals + 3) * length g.nonterminals
+    pub owners : length groups ≡ (length g.terminals + 3) * length g.nonterminals
+    pub entered : (e : Entrance) → IsIn waiting e → IsEnteredBy g e.before e.nonterminal
+    pub sound : (n : ℕ) (spot : Spot) → IsIn (slice_index_or groups n []) spot → IsSoundSpot g spot
+    pub seen : (e : Entrance) → e.nonterminal < length g.nonterminals → Seen marks e → IsIn waiting e ⊎ Done groups e
+    pub closed : (n : ℕ) (spot : Spot) → IsIn (slice_index_or groups n []) spot → (e : Entrance) → Opens spot e → IsFound (length g.nonterminals) marks e
 
   module _ (well : IsWellFormed g) (reduced : IsReduced g) (nulls : AreMarksOf g (Nullable g) nullable) (ends : AreEndings g all) where
-    pub spot_is_place : (e : Entrance) (spot : Spot) → IsEntered g e.before e.nonterminal → IsUnder e spot → IsSound spot
-    spot_is_place e spot entered (i, i_below, (rule, rule_is, left, (k, k_below, (y, y_below, (ending, symbol_is, before_is, owner_is, after_is))))) =
-        let right_is : rule.right ≡ take k rule.right ++ spot.symbol ∷ drop (k + 1) rule.right = parts_of rule.right k spot.symbol symbol_is in
-        let low : y < length g.terminals + 2 = let n = ends.count in omega arith in
-        let ours = front_all (IsSymbol g) (take k rule.right) (spot.symbol ∷ drop (k + 1) rule.right) (subst (AllByRecursion (IsSymbol g)) right_is (well.symbols (suc i) rule rule_is)) in
-        let is : IsEnding g (take k rule.right) e.before y = ending_is g nullable nulls y (marks_at all y) (ends.marks y low) well reduced e.before (take k rule.right) ours ending in
-        record {
-          p = suc i;
-          rule = rule;
-          before = take k rule.right;
-          rule_is = rule_is;
-          left_is = left ∙ ap (λ (x : Entrance). x.nonterminal) (sym owner_is);
-          right_is = right_is ∙ ap (λ (f : List Symbol). take k rule.right ++ spot.symbol ∷ f) (sym after_is);
-          entered = subst (λ (x : Entrance). IsEntered g x.before x.nonterminal) (sym owner_is) entered;
-          ending = subst (λ (t : ℕ × ℕ). IsEnding g (take k rule.right) t.0 t.1) (λ i. (ap (λ (x : Entrance). x.before) (sym owner_is) i, sym before_is i)) is;
-        }
+    pub spot_is_sound : (e : Entrance) (spot : Spot) → IsEnteredBy g e.before e.nonterminal → IsUnder e spot → IsSoundSpot g spot
+    spot_is_sound e spot (inr (is, y, entered)) (inr (ne, spot_is)) = absurd (ne (is ∙ sym ends.count))
+    spot_is_sound e spot (inl entered) (inr (ne, spot_is)) =
+        subst (IsSoundSpot g) (sym (spot_is ∙ (λ i. record { before = ends.count i; symbol = Nonterminal e.nonterminal; owner = e; after = [] }))) (gathers e.before e.nonterminal entered)
+    spot_is_sound e spot by (inl (i, i_below, (rule, rule_is, left, (k, k_below, (y, y_below, (test, symbol_is, before_is, owner_is, after_is)))))) =
+        subst (IsSoundSpot g) (λ i. record { before = sym before_is i; symbol = spot.symbol; owner = sym owner_is i; after = sym after_is i }) (⊎_elim (go by) (at_own by) (reached nullable all e.before y (take k rule.right) test))
+      where
+        front : List Symbol
+        front = take k rule.right
 
-    pub place_is_spot : (z0 owner z : ℕ) (s : Symbol) (after : List Symbol) → IsWidePlace g z0 owner z s after → IsUnder (record { before = z0; nonterminal = owner }) (record { before = z; symbol = s; owner = record { before = z0; nonterminal = owner }; after = after })
-    place_is_spot z0 owner z s after place = by place.p place.rule_is
+        after : List Symbol
+        after = drop (k + 1) rule.right
+
+        right_is : rule.right ≡ front ++ spot.symbol ∷ after
+        right_is = parts_of rule.right k spot.symbol symbol_is
+
+        low : y < length g.terminals + 2
+        low = let n = ends.count in omega arith
+
+        ours : AllByRecursion (IsSymbol g) front
+        ours = front_all (IsSymbol g) front (spot.symbol ∷ after) (subst (AllByRecursion (IsSymbol g)) right_is (well.symbols (suc i) rule rule_is))
+
+        place : (z0 : ℕ) → IsEntered g z0 e.nonterminal → is_ending nullable (marks_at all y) z0 y front ≡ true → IsWidePlace g z0 e.nonterminal y spot.symbol after
+        place z0 entered h =
+            record { p = suc i; rule = rule; before = front; rule_is = rule_is; left_is = left; right_is = right_is; entered = entered; ending = ending_is g nullable nulls y (marks_at all y) (ends.marks y low) well reduced z0 front ours h }
+
+        it : Spot
+        it = record { before = y; symbol = spot.symbol; owner = e; after = after }
+
+        go : IsEnteredBy g e.before e.nonterminal → ((e.before ≡ length all) × (finishes nullable (marks_at all y) y front ≡ true)) → IsSoundSpot g it
+        go by t =
+            subst (IsSoundSpot g) (λ i. record { before = y; symbol = spot.symbol; owner = record { before = sym (t.0 ∙ ends.count) i; nonterminal = e.nonterminal }; after = after })
+            (shared (someone by).0 e.nonterminal y spot.symbol after (someone by).1 (λ z1 entered. place z1 entered (or_left (finishes nullable (marks_at all y) y front) ((z1 == y) && all_vanish nullable front) t.1)))
+          where
+            someone : IsEnteredBy g e.before e.nonterminal → (z1 : ℕ) × IsEntered g z1 e.nonterminal
+            someone (inl entered) = (e.before, entered)
+            someone (inr (is, z1, entered)) = (z1, entered)
+
+        at_own : IsEnteredBy g e.before e.nonterminal → ((e.before ≡ y) × (all_vanish nullable front ≡ true)) → IsSoundSpot g it
+        at_own (inr (is, z1, entered)) t = absurd (let s : e.before ≡ y = t.0 in omega arith)
+        at_own (inl entered) t =
+            own e.before e.nonterminal y spot.symbol after
+            (place e.before entered (or_right (finishes nullable (marks_at all y) y front) ((e.before == y) && all_vanish nullable front) (and (e.before == y) (all_vanish nullable front) (eq-eqb e.before y t.0) t.1)))
+
+    abbrev pub SpotOf : ℕ → ℕ → ℕ → Symbol → List Symbol → Spot
+    SpotOf z0 owner z s after = record { before = z; symbol = s; owner = record { before = z0; nonterminal = owner }; after = after }
+
+    pub place_is_spot : (z0 owner z : ℕ) (s : Symbol) (after : List Symbol) → IsWidePlace g z0 owner z s after → IsUnder (record { before = z0; nonterminal = owner }) (SpotOf z0 owner z s after) ⊎ IsUnder (record { before = any_before g; nonterminal = owner }) (SpotOf (any_before g) owner z s after)
+    place_is_spot z0 owner z s after place =
+        ⊎_elim
+        (λ (h : finishes nullable (marks_at all z) z place.before ≡ true). inr (inl (by (any_before g) place.p place.rule_is (reached_any nullable all (any_before g) z place.before (sym ends.count) h))))
+        (λ (h : ((z0 == z) && all_vanish nullable place.before) ≡ true). inl (inl (by z0 place.p place.rule_is (reached_own nullable all z0 z place.before (let l = entered_below g well z0 owner place.entered in let n = ends.count in omega arith) h))))
+        (either (finishes nullable (marks_at all z) z place.before) ((z0 == z) && all_vanish nullable place.before) (ending_tests g nullable nulls z (marks_at all z) (ends.marks z low) well reduced z0 place.before place.ending))
       where
         right : List Symbol
         right = place.rule.right
@@ -99,80 +148,120 @@ module _ (g : Grammar) (nullable : List Bool) (all : List LastMarks) where
         low : z < length g.terminals + 2
         low = place_below g well z0 owner z s after place
 
-        tests : is_ending nullable (marks_at all z) z0 z (take (length place.before) right) ≡ true
-        tests = ap (is_ending nullable (marks_at all z) z0 z) front ∙ ending_tests g nullable nulls z (marks_at all z) (ends.marks z low) well reduced z0 place.before place.ending
-
-        by : (p : ℕ) → production g p ≡ Some place.rule → IsUnder (record { before = z0; nonterminal = owner }) (record { before = z; symbol = s; owner = record { before = z0; nonterminal = owner }; after = after })
-        by zero is = absurd (none-some place.rule is)
-        by (suc i) is =
-            let at : IsSpotAt nullable all (record { before = z0; nonterminal = owner }) right (length place.before) z (record { before = z; symbol = s; owner = record { before = z0; nonterminal = owner }; after = after }) =
-            (tests, there, refl, refl, sym (ap (λ (f : List Symbol). drop (length place.before + 1) f) place.right_is ∙ rest_at place.before s after)) in
+        by : (e : ℕ) (p : ℕ) → production g p ≡ Some place.rule → is_reached nullable all e z place.before ≡ true → IsSpotUnder nullable all g.productions (record { before = e; nonterminal = owner }) (SpotOf e owner z s after)
+        by e zero is h = absurd (none-some place.rule is)
+        by e (suc i) is h =
+            let at : IsSpotAt nullable all (record { before = e; nonterminal = owner }) right (length place.before) z (SpotOf e owner z s after) =
+            (ap (is_reached nullable all e z) front ∙ h, there, refl, refl, sym (ap (λ (f : List Symbol). drop (length place.before + 1) f) place.right_is ∙ rest_at place.before s after)) in
             (i, slice_get_within g.productions i place.rule is, (place.rule, is, place.left_is, (length place.before, slice_get_within right (length place.before) s there, (z, (let n : length all ≡ length g.terminals + 2 = ends.count in let l : z < length g.terminals + 2 = low in omega arith), at))))
+
+    gathering_is_spot : (z0 owner : ℕ) → IsEntered g z0 owner → IsUnder (record { before = z0; nonterminal = owner }) (SpotOf z0 owner (any_before g) (Nonterminal owner) [])
+    gathering_is_spot z0 owner entered = inr (λ is. entered_not_any g well z0 owner entered (is ∙ ends.count), λ i. SpotOf z0 owner (sym ends.count i) (Nonterminal owner) [])
 
     start_entered : IsEntered g 0 0
     start_entered = entered_of_stands g begin_mark 0 (Terminal (end_mark g) ∷ []) (stands_match g begin_mark begin_mark (first_stack g) (stands_first g))
 
-    pub survey_start : (marks : List Bool) → length marks ≡ (length g.terminals + 2) * length g.nonterminals → ((a : ℕ) → get_or marks a false ≡ false) → IsSurvey marks (start ∷ []) []
-    survey_start marks size none =
+    pub survey_start : (marks : List Bool) (groups : List (List Spot)) → length marks ≡ (length g.terminals + 3) * length g.nonterminals → length groups ≡ (length g.terminals + 3) * length g.nonterminals → ((a : ℕ) → get_or marks a false ≡ false)
+        → ((n : ℕ) → slice_index_or groups n [] ≡ []) → IsSurvey marks (start ∷ []) groups
+    survey_start marks groups size owners none empty =
         record {
           size = size;
-          entered = λ e h. ⊎_elim (λ (k : e ≡ start). subst (λ (x : Entrance). IsEntered g x.before x.nonterminal) (sym k) start_entered) (λ (k : ⊥). absurd k) h;
-          sound = λ spot h. absurd h;
+          owners = owners;
+          entered = λ e h. ⊎_elim (λ (k : e ≡ start). inl (subst (λ (x : Entrance). IsEntered g x.before x.nonterminal) (sym k) start_entered)) (λ (k : ⊥). absurd k) h;
+          sound = λ n spot h. absurd (subst (λ (xs : List Spot). IsIn xs spot) (empty n) h);
           seen = λ e l h. ⊎_elim (λ (k : IsFound (length g.nonterminals) marks e). absurd (true≢false (sym k ∙ none (place_of (length g.nonterminals) e)))) (λ (k : e ≡ start). inl (inl k)) h;
-          closed = λ spot h. absurd h;
+          closed = λ n spot h. absurd (subst (λ (xs : List Spot). IsIn xs spot) (empty n) h);
         }
 
     -- where a place's symbol is a nonterminal, that is entered
-    opened_entered : (spot : Spot) (e : Entrance) → IsSound spot → Opens spot e → IsEntered g e.before e.nonterminal
-    opened_entered spot e place h =
-        let s = stands_of_entered g spot.owner.before spot.owner.nonterminal place.entered in
-        let t = at_place g spot.owner.before spot.owner.nonterminal spot.before spot.symbol spot.after s.0 place s.1 in
-        entered_of_stands g e.before e.nonterminal (spot.after ++ s.0) (subst (λ (x : ℕ × Symbol). Stands g x.0 (x.1 ∷ (spot.after ++ s.0))) (λ i. (h.1 i, h.0 i)) t)
+    opened_at : (z0 owner z : ℕ) (s : Symbol) (after : List Symbol) (e : Entrance) → IsWidePlace g z0 owner z s after → s ≡ Nonterminal e.nonterminal → z ≡ e.before → IsEntered g e.before e.nonterminal
+    opened_at z0 owner z s after e place s_is z_is =
+        let b = stands_of_entered g z0 owner place.entered in
+        let t = at_place g z0 owner z s after b.0 place b.1 in
+        entered_of_stands g e.before e.nonterminal (after ++ b.0) (subst (λ (x : ℕ × Symbol). Stands g x.0 (x.1 ∷ (after ++ b.0))) (λ i. (z_is i, s_is i)) t)
 
-    pub have_room : (e0 : Entrance) (own : List Spot) (size : ℕ) → size ≡ (length g.terminals + 2) * length g.nonterminals → IsEntered g e0.before e0.nonterminal → Adds (IsUnder e0) [] own → HaveRoom (length g.nonterminals) own size
-    have_room e0 own size size_is entered adds spot is e h =
-        let place : IsSound spot = ⊎_elim (λ (k : ⊥). absurd k) (λ (k : IsUnder e0 spot). spot_is_place e0 spot entered k) (adds.from spot is) in
-        let low : e.nonterminal < length g.nonterminals = subst (IsSymbol g) h.0 (place_symbol g well spot.owner.before spot.owner.nonterminal spot.before spot.symbol spot.after place) in
-        let below : e.before < length g.terminals + 2 = subst (λ (n : ℕ). n < length g.terminals + 2) h.1 (place_below g well spot.owner.before spot.owner.nonterminal spot.before spot.symbol spot.after place) in
-        (low, subst (λ (n : ℕ). place_of (length g.nonterminals) e < n) (sym size_is) (within_product (length g.terminals + 2) (length g.nonterminals) e.before e.nonterminal below low))
+    opened_entered : (spot : Spot) (e : Entrance) → IsSoundSpot g spot → Opens spot e → IsEnteredBy g e.before e.nonterminal
+    opened_entered _ e (own z0 owner z s after place) h = inl (opened_at z0 owner z s after e place h.0 h.1)
+    opened_entered _ e (gathers z0 owner entered) h = inr (sym h.1, z0, subst (IsEntered g z0) (same_nonterminal h.0) entered)
+    opened_entered _ e (shared z0 owner z s after entered places) h = inl (opened_at z0 owner z s after e (places z0 entered) h.0 h.1)
 
-    module _ (marks0 marks1 : List Bool) (rest waiting : List Entrance) (e0 : Entrance) (spots own : List Spot) (h : IsSurvey marks0 (rest ++ e0 ∷ []) spots) (adds : Adds (IsUnder e0) [] own)
-        (finds : Finds (length g.nonterminals) (OpensIn own (length own)) marks0 rest marks1 waiting) where
-      own_sound : (spot : Spot) → IsIn own spot → IsSound spot
-      own_sound spot k = ⊎_elim (λ (m : ⊥). absurd m) (λ (m : IsUnder e0 spot). spot_is_place e0 spot (h.entered e0 (Rattle.llp_wide.proofs.Additions.in_last rest e0 e0 refl)) m) (adds.from spot k)
+    pub owner_within : (e0 : Entrance) (size : ℕ) → size ≡ (length g.terminals + 3) * length g.nonterminals → IsEnteredBy g e0.before e0.nonterminal → place_of (length g.nonterminals) e0 < size
+    owner_within e0 size size_is by =
+        subst (λ (n : ℕ). place_of (length g.nonterminals) e0 < n) (sym size_is) (within_product (length g.terminals + 3) (length g.nonterminals) e0.before e0.nonterminal (by_below g well e0.before e0.nonterminal by) (by_low g well e0.before e0.nonterminal by))
 
-      sound_now : (spot : Spot) → IsIn (spots ++ own) spot → IsSound spot
-      sound_now spot k = ⊎_elim (h.sound spot) (own_sound spot) (in_both spots own spot k)
+    pub have_room : (e0 : Entrance) (own_spots : List Spot) (size : ℕ) → size ≡ (length g.terminals + 3) * length g.nonterminals → IsEnteredBy g e0.before e0.nonterminal → Adds (IsUnder e0) [] own_spots → HaveRoom (length g.nonterminals) own_spots size
+    have_room e0 own_spots size size_is entered adds spot is e h =
+        let sound : IsSoundSpot g spot = ⊎_elim (λ (k : ⊥). absurd k) (λ (k : IsUnder e0 spot). spot_is_sound e0 spot entered k) (adds.from spot is) in
+        let by = opened_entered spot e sound h in
+        (by_low g well e.before e.nonterminal by, owner_within e size size_is by)
 
-      entered_now : (e : Entrance) → IsIn waiting e → IsEntered g e.before e.nonterminal
+    module _ (marks0 marks1 : List Bool) (rest waiting : List Entrance) (e0 : Entrance) (groups : List (List Spot)) (found : List Spot) (h : IsSurvey marks0 (rest ++ e0 ∷ []) groups) (adds : Adds (IsUnder e0) [] found)
+        (finds : Finds (length g.nonterminals) (OpensIn found (length found)) marks0 rest marks1 waiting) where
+      abbrev now : List (List Spot)
+      now = set groups (place_of (length g.nonterminals) e0) found
+
+      entered_first : IsEnteredBy g e0.before e0.nonterminal
+      entered_first = h.entered e0 (in_last rest e0 e0 refl)
+
+      within : place_of (length g.nonterminals) e0 < length groups
+      within = owner_within e0 (length groups) h.owners entered_first
+
+      found_sound : (spot : Spot) → IsIn found spot → IsSoundSpot g spot
+      found_sound spot k = ⊎_elim (λ (m : ⊥). absurd m) (λ (m : IsUnder e0 spot). spot_is_sound e0 spot entered_first m) (adds.from spot k)
+
+      sound_now : (n : ℕ) (spot : Spot) → IsIn (slice_index_or now n []) spot → IsSoundSpot g spot
+      sound_now n spot k = ⊎_elim (h.sound n spot) (found_sound spot) (in_set groups (place_of (length g.nonterminals) e0) found within n spot k)
+
+      entered_now : (e : Entrance) → IsIn waiting e → IsEnteredBy g e.before e.nonterminal
       entered_now e k =
-          ⊎_elim (λ (m : IsIn rest e). h.entered e (Rattle.llp_wide.proofs.Additions.in_still rest e0 e m))
-          (λ (m : OpensIn own (length own) e). opened_entered m.2.0 e (own_sound m.2.0 (in_at own m.0 m.2.0 m.2.1)) m.2.2) (finds.from e k)
+          ⊎_elim (λ (m : IsIn rest e). h.entered e (in_still rest e0 e m))
+          (λ (m : OpensIn found (length found) e). opened_entered m.2.0 e (found_sound m.2.0 (in_at found m.0 m.2.0 m.2.1)) m.2.2) (finds.from e k)
 
-      done_more : (e : Entrance) → Done spots e → Done (spots ++ own) e
-      done_more e d spot k = in_first spots own spot (d spot k)
+      done_first : (spot : Spot) → IsUnder e0 spot → IsIn (slice_index_or now (place_of (length g.nonterminals) e0) []) spot
+      done_first spot k = subst (λ (xs : List Spot). IsIn xs spot) (sym (get_or-set_same groups (place_of (length g.nonterminals) e0) found [] within)) (adds.meets spot k)
 
-      seen_before : (e : Entrance) → IsIn (rest ++ e0 ∷ []) e ⊎ Done spots e → IsIn waiting e ⊎ Done (spots ++ own) e
-      seen_before e (inr d) = inr (done_more e d)
-      seen_before e (inl i) =
-          ⊎_elim (λ (m : IsIn rest e). inl (finds.still e m)) (λ (m : e ≡ e0). inr (λ spot k. in_second spots own spot (adds.meets spot (subst (λ (x : Entrance). IsUnder x spot) m k)))) (in_parts rest e0 e i)
+      done_more : (e : Entrance) → e.nonterminal < length g.nonterminals → Done groups e → Done now e
+      done_more e l d spot k = go (eqb (place_of (length g.nonterminals) e) (place_of (length g.nonterminals) e0)) refl
+        where
+          go : (b : Bool) → eqb (place_of (length g.nonterminals) e) (place_of (length g.nonterminals) e0) ≡ b → IsIn (slice_index_or now (place_of (length g.nonterminals) e) []) spot
+          go true is =
+              let at = eqb-true (place_of (length g.nonterminals) e) (place_of (length g.nonterminals) e0) is in
+              let s = same_place (length g.nonterminals) e.before e.nonterminal e0.before e0.nonterminal l (by_low g well e0.before e0.nonterminal entered_first) at in
+              subst (λ (n : ℕ). IsIn (slice_index_or now n []) spot) (sym at) (done_first spot (subst (λ (x : Entrance). IsUnder x spot) (λ i. record { before = s.0 i; nonterminal = s.1 i }) k))
+          go false is =
+              let ne : place_of (length g.nonterminals) e ≢ place_of (length g.nonterminals) e0 = λ same. true≢false (sym (eq-eqb (place_of (length g.nonterminals) e) (place_of (length g.nonterminals) e0) same) ∙ is) in
+              subst (λ (xs : List Spot). IsIn xs spot) (sym (get_or-set_other groups (place_of (length g.nonterminals) e0) (place_of (length g.nonterminals) e) found [] ne)) (d spot k)
 
-      seen_now : (e : Entrance) → e.nonterminal < length g.nonterminals → Seen marks1 e → IsIn waiting e ⊎ Done (spots ++ own) e
-      seen_now e l (inr k) = seen_before e (h.seen e l (inr k))
-      seen_now e l (inl k) = ⊎_elim (λ (m : IsFound (length g.nonterminals) marks0 e). seen_before e (h.seen e l (inl m))) (λ (m : IsIn waiting e). inl m) (finds.opens e l k)
+      seen_before : (e : Entrance) → e.nonterminal < length g.nonterminals → IsIn (rest ++ e0 ∷ []) e ⊎ Done groups e → IsIn waiting e ⊎ Done now e
+      seen_before e l (inr d) = inr (done_more e l d)
+      seen_before e l (inl i) = ⊎_elim (λ (m : IsIn rest e). inl (finds.still e m)) (λ (m : e ≡ e0). inr (subst (Done now) (sym m) done_first)) (in_parts rest e0 e i)
 
-      closed_now : (spot : Spot) → IsIn (spots ++ own) spot → (e : Entrance) → Opens spot e → IsFound (length g.nonterminals) marks1 e
-      closed_now spot k e o =
-          ⊎_elim (λ (m : IsIn spots spot). finds.keeps e (h.closed spot m e o)) (λ (m : IsIn own spot). let a = at_in own spot m in finds.meets e (a.0, a.1, (spot, a.2, o))) (in_both spots own spot k)
+      seen_now : (e : Entrance) → e.nonterminal < length g.nonterminals → Seen marks1 e → IsIn waiting e ⊎ Done now e
+      seen_now e l (inr k) = seen_before e l (h.seen e l (inr k))
+      seen_now e l (inl k) = ⊎_elim (λ (m : IsFound (length g.nonterminals) marks0 e). seen_before e l (h.seen e l (inl m))) (λ (m : IsIn waiting e). inl m) (finds.opens e l k)
 
-      pub survey_on : IsSurvey marks1 waiting (spots ++ own)
-      survey_on = record { size = finds.size ∙ h.size; entered = entered_now; sound = sound_now; seen = seen_now; closed = closed_now }
+      closed_now : (n : ℕ) (spot : Spot) → IsIn (slice_index_or now n []) spot → (e : Entrance) → Opens spot e → IsFound (length g.nonterminals) marks1 e
+      closed_now n spot k e o =
+          ⊎_elim (λ (m : IsIn (slice_index_or groups n []) spot). finds.keeps e (h.closed n spot m e o)) (λ (m : IsIn found spot). let a = at_in found spot m in finds.meets e (a.0, a.1, (spot, a.2, o)))
+          (in_set groups (place_of (length g.nonterminals) e0) found within n spot k)
+
+      pub survey_on : IsSurvey marks1 waiting (set groups (place_of (length g.nonterminals) e0) found)
+      survey_on = record { size = finds.size ∙ h.size; owners = length-set groups (place_of (length g.nonterminals) e0) found ∙ h.owners; entered = entered_now; sound = sound_now; seen = seen_now; closed = closed_now }
 
     -- ---- at the end
 
-    module _ (marks : List Bool) (spots : List Spot) (h : IsSurvey marks [] spots) where
-      done : (e : Entrance) → e.nonterminal < length g.nonterminals → Seen marks e → Done spots e
-      done e l s = ⊎_elim (λ (k : ⊥). absurd k) (λ (k : Done spots e). k) (h.seen e l s)
+    module _ (marks : List Bool) (groups : List (List Spot)) (h : IsSurvey marks [] groups) where
+      done : (e : Entrance) → e.nonterminal < length g.nonterminals → Seen marks e → Done groups e
+      done e l s = ⊎_elim (λ (k : ⊥). absurd k) (λ (k : Done groups e). k) (h.seen e l s)
+
+      -- where an owner has been found, it is gathered
+      gathered : (z a : ℕ) → IsEntered g z a → Seen marks (record { before = z; nonterminal = a }) → IsIn (spots_of (length g.nonterminals) groups z a) (SpotOf z a (any_before g) (Nonterminal a) [])
+      gathered z a entered seen = done (record { before = z; nonterminal = a }) (entered_low g well z a entered) seen (SpotOf z a (any_before g) (Nonterminal a) []) (gathering_is_spot z a entered)
+
+      done_any : (z a : ℕ) → IsEntered g z a → Seen marks (record { before = z; nonterminal = a }) → Done groups (record { before = any_before g; nonterminal = a })
+      done_any z a entered seen =
+          let e : Entrance = record { before = any_before g; nonterminal = a } in
+          done e (entered_low g well z a entered) (inl (h.closed (z * length g.nonterminals + a) (SpotOf z a (any_before g) (Nonterminal a) []) (gathered z a entered seen) e (refl, refl)))
 
       -- each nonterminal of a stack has been found, by what is matched last before it
       abbrev IsSeen : ℕ → Symbol → List Symbol → Type 0
@@ -188,24 +277,29 @@ module _ (g : Grammar) (nullable : List Bool) (all : List LastMarks) where
       seen_first (x ∷ w ∷ v ∷ []) back s y is ending a s_is = absurd (nil-cons (same_tail (same_tail (same_tail is))))
       seen_first (x ∷ w ∷ v ∷ t ∷ front) back s y is ending a s_is = absurd (nil-cons (same_tail (same_tail (same_tail is))))
 
-      rule_low : (p a : ℕ) (r : List Symbol) → Rule g p a r → a < length g.nonterminals
-      rule_low p a r rule = well.lefts p (record { left = a; right = r }) rule
-
       seen_expand : (z a p : ℕ) (r u front after : List Symbol) (s : Symbol) (y : ℕ) → IsEntered g z a → IsSeen z (Nonterminal a) u → Rule g p a r → r ≡ front ++ s ∷ after → IsEnding g front z y → IsSeen y s (after ++ u)
       seen_expand z a p r u front after s y entered owner rule right_is ending c s_is =
           let place : IsWidePlace g z a y s after = record { p = p; rule = record { left = a; right = r }; before = front; rule_is = rule; left_is = refl; right_is = right_is; entered = entered; ending = ending } in
-          let it : Spot = record { before = y; symbol = s; owner = record { before = z; nonterminal = a }; after = after } in
-          let there : IsIn spots it = done (record { before = z; nonterminal = a }) (rule_low p a r rule) (owner a refl) it (place_is_spot z a y s after place) in
-          inl (h.closed it there (record { before = y; nonterminal = c }) (s_is, refl))
+          let e : Entrance = record { before = y; nonterminal = c } in
+          inl
+          (⊎_elim
+          (λ (k : IsUnder (record { before = z; nonterminal = a }) (SpotOf z a y s after)).
+          h.closed (z * length g.nonterminals + a) (SpotOf z a y s after) (done (record { before = z; nonterminal = a }) (entered_low g well z a entered) (owner a refl) (SpotOf z a y s after) k) e (s_is, refl))
+          (λ (k : IsUnder (record { before = any_before g; nonterminal = a }) (SpotOf (any_before g) a y s after)).
+          h.closed (any_before g * length g.nonterminals + a) (SpotOf (any_before g) a y s after) (done_any z a entered (owner a refl) (SpotOf (any_before g) a y s after) k) e (s_is, refl))
+          (place_is_spot z a y s after place))
 
       entered_seen : (z a : ℕ) → IsEntered g z a → Seen marks (record { before = z; nonterminal = a })
       entered_seen z a e = let s = stands_of_entered g z a e in ruled_stands g IsSeen seen_first seen_expand z (Nonterminal a ∷ s.0) s.1 [] s.0 (Nonterminal a) z refl ([], [], refl, refl) a refl
 
-      pub survey_end : AreSpots g spots
+      pub survey_end : AreSpots g groups
       survey_end =
           record {
             sound = h.sound;
             complete = λ z0 owner z s after place.
-                done (record { before = z0; nonterminal = owner }) (subst (λ (n : ℕ). n < length g.nonterminals) place.left_is (well.lefts place.p place.rule place.rule_is)) (entered_seen z0 owner place.entered)
-                (record { before = z; symbol = s; owner = record { before = z0; nonterminal = owner }; after = after }) (place_is_spot z0 owner z s after place);
+                let seen = entered_seen z0 owner place.entered in
+                ⊎_elim
+                (λ (k : IsUnder (record { before = z0; nonterminal = owner }) (SpotOf z0 owner z s after)). inl (done (record { before = z0; nonterminal = owner }) (entered_low g well z0 owner place.entered) seen (SpotOf z0 owner z s after) k))
+                (λ (k : IsUnder (record { before = any_before g; nonterminal = owner }) (SpotOf (any_before g) owner z s after)). inr (done_any z0 owner place.entered seen (SpotOf (any_before g) owner z s after) k, gathered z0 owner place.entered seen))
+                (place_is_spot z0 owner z s after place);
           }

@@ -25,9 +25,9 @@ use Rattle.llp_tables.specs.declared.cells.Members.{Members}
 use Rattle.ll1_sets.proofs.FormTests.{both, and}
 use Rattle.ll1_sets.proofs.LeftRecursion.{not_left_recursive}
 use Rattle.llp_tables.proofs.StackOrder.{before_not_itself}
-use Rattle.llp_wide.specs.Triples.{entry_at, IsNumberOf, ArePiecesFor, AddsOne, HasNumber, TellsTriple, AreTriples, AreTriplesUpTo}
+use Rattle.llp_wide.specs.Triples.{AreLayers, entry_at, IsNumberOf, ArePiecesFor, AddsOne, HasNumber, TellsTriple, AreTriples, AreTriplesUpTo}
 use Rattle.llp_wide.specs.Wide.{IsWideLookback, IsWideLlp, IsWideEntry, HasWideEntry}
-use Rattle.llp_wide.specs.WideConflicts.{TellWide}
+use Rattle.llp_wide.specs.WideConflicts.{TellWide, IsWideLlpOn}
 use Rattle.llp_wide.specs.WideEntries.{WideTable, triple_place, wide_entry_of, AreWideTablesOf, HasWideMember, CountsTriples}
 use Rattle.llp_wide.specs.WideFaults.{IsWideFault}
 use Rattle.llp_wide.specs.declared.fault.WideFault.{WideFault}
@@ -54,6 +54,9 @@ pub piece_alone : (g : Grammar) (b : ℕ) (closes opens : List Symbol) (before a
 piece_alone g b closes opens before after none h = subst (IsPiece g b closes opens) (sym (h.added ∙ ap (λ ps. ps ++ h.productions) none)) h.piece
 
 -- ---- one more piece
+
+layers_whole : (w : ℕ) → triple_place w 0 0 w ≡ w * w * w
+layers_whole w = omega arith
 
 module _ (g : Grammar) (b start : ℕ) where
   adds_nothing : (pieces : List Entry) → ArePiecesFor g b start pieces → AddsOne g b start pieces pieces
@@ -87,13 +90,13 @@ module _ (g : Grammar) (b start : ℕ) where
     pub triple_member : (x : List Symbol) → cells_at classes z (Terminal a) ≡ One x → IsWideLookback g z a b x
     triple_member x e = (kept x e).0
 
-    triple_none : IsWideLlp g → ((x : List Symbol) → cells_at classes z (Terminal a) ≡ One x → ⊥) → (beta : List Symbol) → ¬ IsWideLookback g z a b beta
+    triple_none : IsWideLlpOn g b → ((x : List Symbol) → cells_at classes z (Terminal a) ≡ One x → ⊥) → (beta : List Symbol) → ¬ IsWideLookback g z a b beta
     triple_none llp other beta h = go (cells_at classes z (Terminal a)) refl (tell z a)
       where
         go : (s : Slots) → cells_at classes z (Terminal a) ≡ s → KeepsLeast (IsWideLookback g z a b) s → ⊥
         go Empty e k = k beta h
         go (One x) e k = other x e
-        go (Two x y) e k = before_not_itself y (subst (λ (t : List Symbol). IsBefore t y) (llp z a b x y k.0 k.1) k.2)
+        go (Two x y) e k = before_not_itself y (subst (λ (t : List Symbol). IsBefore t y) (llp z a x y k.0 k.1) k.2)
 
     pub tells_number : (x : List Symbol) (old new : List Entry) (n : ℕ) → cells_at classes z (Terminal a) ≡ One x → HasNumber g b start x old new n → TellsTriple g z a b start old new (Some n)
     tells_number x old new n e h = record { adds = h.adds; number_is = slice_get_within new n h.entry h.there; tells = subst (HasWideEntry g z a b) (sym h.there) entry }
@@ -106,7 +109,7 @@ module _ (g : Grammar) (b start : ℕ) where
               piece = h.piece;
             }
 
-    pub tells_nothing : (pieces : List Entry) → IsWideLlp g → ((x : List Symbol) → cells_at classes z (Terminal a) ≡ One x → ⊥) → ArePiecesFor g b start pieces → TellsTriple g z a b start pieces pieces None
+    pub tells_nothing : (pieces : List Entry) → IsWideLlpOn g b → ((x : List Symbol) → cells_at classes z (Terminal a) ≡ One x → ⊥) → ArePiecesFor g b start pieces → TellsTriple g z a b start pieces pieces None
     tells_nothing pieces llp other h = record { adds = adds_nothing pieces h; number_is = tt; tells = triple_none llp other }
 
 -- ---- one more number
@@ -235,6 +238,9 @@ module _ (g : Grammar) where
           go false e = λ beta k.
               let r = wide_in_range g well z a b beta k in
               true≢false (sym (and (nat_lt z w) (nat_lt a w && nat_lt b w) (lt-ltb z w r.0) (and (nat_lt a w) (nat_lt b w) (lt-ltb a w r.1) (lt-ltb b w r.2))) ∙ e)
+
+  pub table_of_layers : IsWellFormed g → IsLl1 g → IsWideLlp g → (numbers : List (Option ℕ)) (pieces : List Entry) → AreLayers g (width_of g) numbers pieces → AreWideTablesOf g (record { width = width_of g; entries = map (entry_at pieces) numbers })
+  table_of_layers well ll1 llp numbers pieces h = table_of_triples well ll1 llp numbers pieces (h.place ∙ layers_whole (width_of g)) h.triples
 
 -- ---- how many entries there are
 

@@ -1,5 +1,5 @@
 -- The terminals that can be matched.
-use Rattle.std.proofs.Common.{◌≡◌, ℕ, ◌+◌, ◌<◌, List, [], ◌∷◌, ◌++◌, length, Some, sym, subst, arith}
+use Rattle.std.proofs.Common.{◌≡◌, ℕ, ◌+◌, ◌<◌, inl, inr, List, [], ◌∷◌, ◌++◌, length, Some, sym, subst, arith}
 use Rattle.std.specs.List.{AllByRecursion}
 use Rattle.std.proofs.lemmas.Option.{same_Some}
 use Rattle.grammar_file.specs.declared.symbols.Symbol.{Symbol}
@@ -9,7 +9,7 @@ use Rattle.grammar_file.specs.Derivation.{Derives, word_form}
 use Rattle.grammar_file.proofs.Derives.{behind_terminal, first_step, derives_nil}
 use Rattle.grammar_file.proofs.Words.{nil-cons}
 use Rattle.llp_wide.specs.Wide.{wide_whole}
-use Rattle.llp_wide.specs.WideBehind.{last_behind, IsEntered, IsWidePlace}
+use Rattle.llp_wide.specs.WideBehind.{last_behind, any_before, IsEntered, IsEnteredBy, IsWidePlace, WideBehind, here, through, of_start, of_begin}
 
 pub front_all : (P : Symbol → Type 0) (u v : List Symbol) → AllByRecursion P (u ++ v) → AllByRecursion P u
 front_all P [] v h = tt
@@ -24,15 +24,15 @@ both_all P [] v h k = k
 both_all P (s ∷ u) v h k = (h.0, both_all P u v h.1 k)
 
 module _ (g : Grammar) (well : IsWellFormed g) where
-  -- a terminal of the grammar or a mark
+  -- a terminal of the grammar or a mark, or a nonterminal of it
   abbrev pub IsBounded : Symbol → Type 0
   IsBounded (Terminal a) = a < length g.terminals + 2
-  IsBounded (Nonterminal a) = Unit {0}
+  IsBounded (Nonterminal a) = a < length g.nonterminals
 
   bounded : (form : List Symbol) → AllByRecursion (IsSymbol g) form → AllByRecursion IsBounded form
   bounded [] h = tt
   bounded (Terminal a ∷ form) h = let l = h.0.1 in (let k : a < length g.terminals + 2 = omega arith in k, bounded form h.1)
-  bounded (Nonterminal a ∷ form) h = (tt, bounded form h.1)
+  bounded (Nonterminal a ∷ form) h = (h.0, bounded form h.1)
 
   abbrev Keeps : List ℕ → Type 0
   Keeps ps = (u v : List Symbol) → AllByRecursion IsBounded u → Derives g u ps v → AllByRecursion IsBounded v
@@ -63,11 +63,29 @@ module _ (g : Grammar) (well : IsWellFormed g) where
   middle_bounded [] z rest h = h.0
   middle_bounded (c ∷ x) z rest h = middle_bounded x z rest h.1
 
-  pub entered_below : (z a : ℕ) → IsEntered g z a → z < length g.terminals + 2
-  entered_below z a (ps, x, rest, d) =
+  entered_bounded : (z a : ℕ) (ps x : List ℕ) (rest : List Symbol) → Derives g (wide_whole g) ps (word_form (x ++ z ∷ []) ++ Nonterminal a ∷ rest) → AllByRecursion IsBounded (word_form (x ++ z ∷ []) ++ Nonterminal a ∷ rest)
+  entered_bounded z a ps x rest d =
       let l : 0 < length g.terminals + 2 = omega arith in
       let m : end_mark g < length g.terminals + 2 = omega arith in
-      middle_bounded x z (Nonterminal a ∷ rest) (keeps ps (wide_whole g) (word_form (x ++ z ∷ []) ++ Nonterminal a ∷ rest) (l, (l, (tt, (m, tt)))) d)
+      keeps ps (wide_whole g) (word_form (x ++ z ∷ []) ++ Nonterminal a ∷ rest) (l, (l, (well.has_start, (m, tt)))) d
+
+  pub entered_below : (z a : ℕ) → IsEntered g z a → z < length g.terminals + 2
+  entered_below z a (ps, x, rest, d) = middle_bounded x z (Nonterminal a ∷ rest) (entered_bounded z a ps x rest d)
+
+  pub entered_low : (z a : ℕ) → IsEntered g z a → a < length g.nonterminals
+  entered_low z a (ps, x, rest, d) = (back_all IsBounded (word_form (x ++ z ∷ [])) (Nonterminal a ∷ rest) (entered_bounded z a ps x rest d)).0
+
+  -- what is matched last before a nonterminal is no number that stands for any
+  pub entered_not_any : (z a : ℕ) → IsEntered g z a → z ≡ any_before g → ⊥
+  entered_not_any z a e is = let l = entered_below z a e in omega arith
+
+  pub by_below : (z a : ℕ) → IsEnteredBy g z a → z < length g.terminals + 3
+  by_below z a (inl e) = let l = entered_below z a e in omega arith
+  by_below z a (inr (is, y, e)) = omega arith
+
+  pub by_low : (z a : ℕ) → IsEnteredBy g z a → a < length g.nonterminals
+  by_low z a (inl e) = entered_low z a e
+  by_low z a (inr (is, y, e)) = entered_low y a e
 
   pub rights_ours : (p : ℕ) (rule : Production) → production g p ≡ Some rule → AllByRecursion (IsSymbol g) rule.right
   rights_ours p rule is = well.symbols p rule is
@@ -81,3 +99,9 @@ module _ (g : Grammar) (well : IsWellFormed g) where
 
   pub place_symbol : (z0 owner z : ℕ) (s : Symbol) (after : List Symbol) → IsWidePlace g z0 owner z s after → IsSymbol g s
   place_symbol z0 owner z s after place = (back_all (IsSymbol g) place.before (s ∷ after) (subst (AllByRecursion (IsSymbol g)) place.right_is (well.symbols place.p place.rule place.rule_is))).0
+
+  pub behind_below : (z : ℕ) (s : Symbol) (b : ℕ) (w : List Symbol) → WideBehind g z s b w → z < length g.terminals + 2
+  behind_below _ _ _ _ (here z0 owner z s after beta rest b place parts begins) = place_below z0 owner z s after place
+  behind_below _ _ _ _ (through z0 owner z s after beta b place vanish inner) = place_below z0 owner z s after place
+  behind_below _ _ _ _ of_start = omega arith
+  behind_below _ _ _ _ (of_begin beta rest b parts begins) = omega arith

@@ -31,10 +31,14 @@ IsStopIn nullable first b after before symbol = SomeBelow (length after) (IsStop
 abbrev pub IsStopBy : List Bool → List Bool → ℕ → List Spot → ℕ → Claim → Type 0
 IsStopBy nullable first b spots i claim = (spot : Spot) × (slice_get spots i ≡ Some spot) × IsStopIn nullable first b spot.after spot.before spot.symbol claim
 
+-- the same behind some place of owner n
+abbrev pub IsStopOf : List Bool → List Bool → ℕ → List (List Spot) → ℕ → Claim → Type 0
+IsStopOf nullable first b groups n claim = (spots : List Spot) × (slice_get groups n ≡ Some spots) × SomeBelow (length spots) (IsStopBy nullable first b spots) claim
+
 -- in the whole text, or behind some place
-abbrev pub IsFirstClaim : List Bool → List Bool → ℕ → Grammar → List Spot → Claim → Type 0
-IsFirstClaim nullable first b g spots claim =
-    (IsStopIn nullable first b (first_stack g) begin_mark (Terminal begin_mark) claim ⊎ IsStopIn nullable first b (Terminal (end_mark g) ∷ []) begin_mark (Nonterminal 0) claim) ⊎ SomeBelow (length spots) (IsStopBy nullable first b spots) claim
+abbrev pub IsFirstClaim : List Bool → List Bool → ℕ → Grammar → List (List Spot) → Claim → Type 0
+IsFirstClaim nullable first b g groups claim =
+    (IsStopIn nullable first b (first_stack g) begin_mark (Terminal begin_mark) claim ⊎ IsStopIn nullable first b (Terminal (end_mark g) ∷ []) begin_mark (Nonterminal 0) claim) ⊎ SomeBelow (length groups) (IsStopOf nullable first b groups) claim
 
 -- what stands behind the place in its right side vanishes, and its owner has the string
 abbrev pub IsPassAt : List Bool → Claim → Spot → Claim → Type 0
@@ -55,6 +59,6 @@ pub record IsLeastClaim (claims : List Claim) (cell : ℕ → Symbol → Slots) 
   pub uncovered : covers (cell claim.before claim.symbol) claim.stack ≡ false
   pub least : (other : Claim) → IsIn claims other → (covers (cell other.before other.symbol) other.stack ≡ true) ⊎ (IsBefore other.stack claim.stack → ⊥)
 
--- each cell has the least of what is closed behind its symbol where b comes next
+-- each terminal's cell has the least of what is closed behind it where b comes next
 abbrev pub AreLeastWide : Grammar → ℕ → (ℕ → Symbol → Slots) → Type 0
-AreLeastWide g b cell = (z : ℕ) (symbol : Symbol) → KeepsLeast (WideBehind g z symbol b) (cell z symbol)
+AreLeastWide g b cell = (z a : ℕ) → KeepsLeast (WideBehind g z (Terminal a) b) (cell z (Terminal a))

@@ -1,5 +1,5 @@
 -- What a form may end with, by marks on nonterminals, and what is matched last behind it.
-use Rattle.std.specs.Prelude.{◌≡◌, ℕ, ◌<◌, ◌+◌, List, [], ◌∷◌, ◌++◌, length, Bool, false, ◌==◌, ◌&&◌, ◌||◌, Option, Some, None, slice_get}
+use Rattle.std.specs.Prelude.{◌≡◌, ℕ, ◌<◌, ◌+◌, List, [], ◌∷◌, ◌++◌, length, Bool, false, ◌==◌, ◌&&◌, ◌||◌, if◌then◌else◌, Option, Some, None, slice_get}
 use Rattle.grammar_file.specs.declared.symbols.Symbol.{Symbol}
 use Rattle.grammar_file.specs.declared.symbols.Symbol.TheVariants.{Nonterminal}
 use Rattle.grammar_file.specs.Grammar.{Grammar}
@@ -28,6 +28,10 @@ marks_in (Some e) = e.marks.items
 -- the marks of the nonterminals that may end with y
 abbrev pub marks_at : List LastMarks → ℕ → List Bool
 marks_at all y = marks_in (slice_get all y)
+
+-- y is matched last behind the form: in it where z stands for any terminal, the number behind all, and else before it
+abbrev pub is_reached : List Bool → List LastMarks → ℕ → ℕ → List Symbol → Bool
+is_reached nullable all z y form = if z == length all then finishes nullable (marks_at all y) y form else ((z == y) && all_vanish nullable form)
 
 -- for each terminal of the grammar, and its two marks, the nonterminals that have it in LAST
 pub record AreEndings (g : Grammar) (all : List LastMarks) : Type 0 where

@@ -56,3 +56,8 @@ pub record AreTriplesUpTo (g : Grammar) (b start n : ℕ) (numbers : List (Optio
   pub size : length numbers ≡ n
   pub behind : start ≤ length pieces
   pub here : ArePiecesFor g b start pieces
+
+-- the layers of the first n terminals that come next
+pub record AreLayers (g : Grammar) (n : ℕ) (numbers : List (Option ℕ)) (pieces : List Entry) : Type 0 where
+  pub triples : AreTriples g numbers pieces
+  pub place : length numbers ≡ triple_place (width_of g) 0 0 n

@@ -1,5 +1,5 @@
 -- PSLS(z,a,b) by rules: what is closed behind a symbol where b comes next. It rests only on the terminal z that is matched last before the symbol's own part of the word.
-use Rattle.std.specs.Prelude.{◌≡◌, ℕ, List, [], ◌∷◌, ◌++◌, Some}
+use Rattle.std.specs.Prelude.{◌≡◌, ◌⊎◌, ℕ, ◌+◌, List, [], ◌∷◌, ◌++◌, length, Some}
 use Rattle.grammar_file.specs.declared.symbols.Symbol.{Symbol}
 use Rattle.grammar_file.specs.declared.symbols.Symbol.TheVariants.{Terminal, Nonterminal}
 use Rattle.grammar_file.specs.Grammar.{Grammar, Production, production, begin_mark, end_mark}
@@ -43,3 +43,15 @@ pub data WideBehind (g : Grammar) : ℕ → Symbol → ℕ → List Symbol → T
   of_start : WideBehind g begin_mark (Nonterminal 0) (end_mark g) (Terminal (end_mark g) ∷ [])
   -- behind the second begin mark there are the start and the end mark
   of_begin : (beta rest : List Symbol) (b : ℕ) → first_stack g ≡ beta ++ rest → BeginsAtLast g beta b → WideBehind g begin_mark (Terminal begin_mark) b beta
+
+-- stands for any terminal that is matched last: the number behind those of the terminals and the two marks
+abbrev pub any_before : Grammar → ℕ
+any_before g = length g.terminals + 2
+
+-- the nonterminal may be replaced where that terminal, or any, is matched last
+abbrev pub IsEnteredBy : Grammar → ℕ → ℕ → Type 0
+IsEnteredBy g z a = IsEntered g z a ⊎ ((z ≡ any_before g) × (y : ℕ) × IsEntered g y a)
+
+-- the same behind a nonterminal, where z may stand for any terminal that is matched last before it
+abbrev pub BehindAny : Grammar → ℕ → Symbol → ℕ → List Symbol → Type 0
+BehindAny g z s b beta = WideBehind g z s b beta ⊎ ((z ≡ any_before g) × (a : ℕ) × (s ≡ Nonterminal a) × (y : ℕ) × IsEntered g y a × WideBehind g y (Nonterminal a) b beta)

@@ -24,6 +24,10 @@ pub record IsLeastTwoIn (classes : List Members) (z a : ℕ) (first second : Lis
   pub two : cells_at classes z (Terminal a) ≡ Two first second
   pub no_lesser : (d : ℕ) → d < a → HasNoTwo (cells_at classes z (Terminal d))
 
+-- the same for all z and a
+abbrev pub IsWideLlpOn : Grammar → ℕ → Type 0
+IsWideLlpOn g b = (z a : ℕ) → HasOneAtMost g z a b
+
 -- y and then d come before z and then a
 abbrev pub IsLesserPair : ℕ → ℕ → ℕ → ℕ → Type 0
 IsLesserPair y d z a = (y < z) ⊎ ((y ≡ z) × (d < a))
@@ -48,7 +52,7 @@ pub record IsLeastWideBelow (g : Grammar) (n : ℕ) (k : WideConflict) : Type 0 
   pub no_lesser : (y d c : ℕ) → IsLesserPair y d k.z k.a → c < n → HasOneAtMost g y d c
 
 abbrev pub LeastWideOn : Grammar → ℕ → Option WideConflict → Type 0
-LeastWideOn g b None = (z a : ℕ) → HasOneAtMost g z a b
+LeastWideOn g b None = IsWideLlpOn g b
 LeastWideOn g b (Some k) = IsLeastWideOn g b k
 
 abbrev pub LeastWideBelow : Grammar → ℕ → Option WideConflict → Type 0

@@ -9,9 +9,9 @@ ghost use Rattle.llp_tables.specs.Lookbacks.{cells_at};
 ghost use Rattle.llp_tables.specs.Slots.{covers};
 ghost use Rattle.llp_tables.specs.Tables.{stack_lt};
 ghost use Rattle.llp_wide.specs.Added.{Adds, SomeBelow};
-ghost use Rattle.llp_wide.specs.Claims.{Claim as AnyClaim, IsStopAt, IsStopIn, IsStopBy, IsFirstClaim, IsPassAt, IsPassOf, AreClaimsCovered, IsLeastClaim};
+ghost use Rattle.llp_wide.specs.Claims.{Claim as AnyClaim, IsStopAt, IsStopIn, IsStopBy, IsStopOf, IsFirstClaim, IsPassAt, IsPassOf, AreClaimsCovered, IsLeastClaim};
 
-use crate::places::Place;
+use crate::places::{Group, Place};
 use grammar_file::{Grammar, Symbol};
 use llp_tables::{Members, all_vanish, is_before, starts};
 use std::alloc::{AllocError, Global};
@@ -72,7 +72,7 @@ fn add_stop(
     Ok(())
 }
 
-// Adds each front of `after` at whose last symbol b may begin.
+// Adds each front of `after` at whose last symbol b may begin: up to the first symbol that can't vanish.
 fn add_stops(
     alloc: Global,
     nullable: &[bool],
@@ -87,6 +87,9 @@ fn add_stops(
 {
     for j in 0..after.len() {
         add_stop(alloc, nullable, first, b, after, before, symbol, j, waiting)?;
+        if !all_vanish(nullable, &after[..j + 1]) {
+            return Ok(());
+        }
     }
     Ok(())
 }
@@ -119,16 +122,35 @@ fn add_stops_of(
     Ok(())
 }
 
+// Adds the stops behind the places of all owners.
+fn add_all_stops(
+    alloc: Global,
+    nullable: &[bool],
+    first: &[bool],
+    b: u16,
+    groups: &[Group],
+    waiting: &mut Vec<Waiting>,
+) -> Result<(), AllocError>
+    ensures { IfOk result (λ u. Adds (SomeBelow (length groups.now) (IsStopOf nullable.now first.now b groups.now)) waiting.old.items waiting.new.items) }
+{
+    for n in 0..groups.len() {
+        let group = &groups[n];
+        let places = group.places.as_slice();
+        add_stops_of(alloc, nullable, first, b, places, waiting)?;
+    }
+    Ok(())
+}
+
 /// The strings that are forced into the cells while there is nothing in any.
 pub(crate) fn first_waiting(
     alloc: Global,
     grammar: &Grammar,
     nullable: &[bool],
     first: &[bool],
-    places: &[Place],
+    groups: &[Group],
     b: u16,
 ) -> Result<Vec<Waiting>, AllocError>
-    ensures { IfOk result (λ v. Adds (IsFirstClaim nullable.now first.now b grammar.now places.now) [] v.items) }
+    ensures { IfOk result (λ v. Adds (IsFirstClaim nullable.now first.now b grammar.now groups.now) [] v.items) }
 {
     let text = [Symbol::Nonterminal(0), grammar.end_mark()];
     let end = [grammar.end_mark()];
@@ -153,7 +175,7 @@ pub(crate) fn first_waiting(
         Symbol::Nonterminal(0),
         &mut waiting,
     )?;
-    add_stops_of(alloc, nullable, first, b, places, &mut waiting)?;
+    add_all_stops(alloc, nullable, first, b, groups, &mut waiting)?;
     Ok(waiting)
 }
 
@@ -204,7 +226,7 @@ fn add_pass(
     Ok(())
 }
 
-/// Adds what all places pass on of a string in a cell.
+/// Adds what these places pass on of a string in a cell.
 pub(crate) fn add_passes(
     alloc: Global,
     nullable: &[bool],
@@ -216,9 +238,6 @@ pub(crate) fn add_passes(
 ) -> Result<(), AllocError>
     ensures { IfOk result (λ u. Adds (IsPassOf nullable.now (record { before = before; symbol = symbol; stack = below.now }) places.now) waiting.old.items waiting.new.items) }
 {
-    if let Symbol::Terminal(_) = symbol {
-        return Ok(());
-    }
     for i in 0..places.len() {
         add_pass(alloc, nullable, &places[i], before, symbol, below, waiting)?;
     }

@@ -6,13 +6,11 @@ ghost use Rattle.grammar_file.specs.Grammar.{Grammar as AnyGrammar, IsWellFormed
 ghost use Rattle.grammar_file.specs.Marks.{AreMarksOf};
 ghost use Rattle.llp_tables.specs.Lookbacks.{HasNoTwo, cells_at};
 ghost use Rattle.ll1_sets.specs.Predict.{IsNullable};
-ghost use Rattle.llp_tables.specs.Slots.{Two};
+ghost use Rattle.llp_tables.specs.Slots.{Empty as EmptySlots, Two};
 ghost use Rattle.llp_wide.specs.Places.{AreSpots};
 ghost use Rattle.llp_wide.specs.Wide.{IsLeastWideConflict, IsWideLlp};
 ghost use Rattle.llp_wide.specs.WideConflicts.{IsLeastTwoIn, IsLesserPair, LeastWideBelow, LeastWideOn, TellWide};
 
-use crate::members::members_on;
-use crate::places::Place;
 use grammar_file::{Grammar, Symbol};
 use llp_tables::{Members, Stack, two_of};
 use std::alloc::{AllocError, Global};
@@ -45,6 +43,16 @@ fn two_at(
     }
 }
 
+// Whether there are no cells behind z.
+fn is_closed(classes: &[Members], z: u16) -> bool
+    ensures { result ≡ true → (a : ℕ) → cells_at classes.now z (AnyTerminal a) ≡ EmptySlots }
+{
+    match classes.get(z as usize) {
+        Some(members) => members.terminals.is_empty(),
+        None => true,
+    }
+}
+
 /// The least conflict behind z where b comes next: the least a for which there are two strings.
 fn conflict_behind(
     alloc: Global,
@@ -55,6 +63,9 @@ fn conflict_behind(
 ) -> Result<Option<WideConflict>, AllocError>
     ensures { IfOk result (λ o. MatchOption o ((a : ℕ) → a < count → HasNoTwo (cells_at classes.now z (AnyTerminal a))) (λ k. (k.z ≡ z) × (k.b ≡ b) × IsLeastTwoIn classes.now z k.a k.first k.second)) }
 {
+    if is_closed(classes, z) {
+        return Ok(None);
+    }
     for a in 0..count {
         if let Some((first, second)) = two_at(alloc, classes, z, a)? {
             return Ok(Some(WideConflict {
@@ -70,7 +81,7 @@ fn conflict_behind(
 }
 
 /// The least conflict where b comes next: the least z, then the least a.
-fn conflict_on(
+pub(crate) fn conflict_on(
     alloc: Global,
     grammar: &Grammar,
     classes: &[Members],
@@ -98,7 +109,7 @@ fn is_lesser(y: &WideConflict, x: &WideConflict) -> bool
 }
 
 /// The lesser of the least conflict so far and that of the terminal that comes next in turn.
-fn lesser(best: Option<WideConflict>, next: Option<WideConflict>) -> Option<WideConflict>
+pub(crate) fn lesser(best: Option<WideConflict>, next: Option<WideConflict>) -> Option<WideConflict>
     ensures { (g : AnyGrammar) (n : ℕ) → LeastWideBelow g n best → LeastWideOn g n next → LeastWideBelow g (n + 1) result }
 {
     match (best, next) {
@@ -106,26 +117,4 @@ fn lesser(best: Option<WideConflict>, next: Option<WideConflict>) -> Option<Wide
         (Some(x), None) => Some(x),
         (Some(x), Some(y)) => { if is_lesser(&y, &x) { Some(y) } else { Some(x) } }
     }
-}
-
-/// The least conflict: the least z, then the least a, then the least b, and the two least members of PSLS(z,a,b). There is none
-/// exactly where the grammar is LLP(2,1). The cells of one b are kept at a time.
-pub(crate) fn least_wide_conflict(
-    alloc: Global,
-    grammar: &Grammar,
-    nullable: &[bool],
-    places: &[Place],
-) -> Result<Option<WideConflict>, AllocError>
-    requires well_formed { IsWellFormed grammar.now }
-    requires nullable { AreMarksOf grammar.now (λ a. IsNullable grammar.now (AnyNonterminal a ∷ [])) nullable.now }
-    requires places { AreSpots grammar.now places.now }
-    ensures { IfOk result (λ o. MatchOption o (IsWideLlp grammar.now) (λ k. IsLeastWideConflict grammar.now k.z k.a k.b k.first k.second)) }
-{
-    let mut best = None;
-    for b in 0..grammar.terminals().len() as u16 + 2 {
-        let classes = members_on(alloc, grammar, nullable, places, b)?;
-        let next = conflict_on(alloc, grammar, classes.as_slice(), b)?;
-        best = lesser(best, next);
-    }
-    Ok(best)
 }

@@ -7,7 +7,7 @@ ghost use Rattle.grammar_file.specs.Marks.{AreMarksOf};
 ghost use Rattle.grammar_file.specs.Spelling.{IsReduced};
 ghost use Rattle.ll1_sets.specs.Marking.{IsNextBy, IsClosedBy};
 ghost use Rattle.ll1_sets.specs.Predict.{IsNullable};
-ghost use Rattle.llp_wide.specs.Endings.{IsLast, finishes, is_ending, marks_at, AreEndings};
+ghost use Rattle.llp_wide.specs.Endings.{IsLast, finishes, is_reached, marks_at, AreEndings};
 
 use grammar_file::{Grammar, Production, Symbol};
 use llp_tables::{all_vanish, mark_of, no_marks, starts};
@@ -80,21 +80,21 @@ pub(crate) fn endings(
     Ok(all)
 }
 
-/// Whether y may be matched last behind z and what the form derives.
-pub(crate) fn is_ending(
+/// Whether y is matched last behind a form: in it, where z stands for any terminal, as the number behind all does; and else before it.
+pub(crate) fn is_reached(
     nullable: &[bool],
     all: &[LastMarks],
     z: u16,
     y: u16,
     form: &[Symbol],
 ) -> bool
-    ensures { y < length all.now → result ≡ is_ending nullable.now (marks_at all.now y) z y form.now }
+    ensures { y < length all.now → result ≡ is_reached nullable.now all.now z y form.now }
 {
+    if z as usize != all.len() {
+        return z == y && all_vanish(nullable, form);
+    }
     match all.get(y as usize) {
-        Some(last) => {
-            finishes(nullable, last.marks.as_slice(), y, form)
-                || (z == y && all_vanish(nullable, form))
-        }
+        Some(last) => finishes(nullable, last.marks.as_slice(), y, form),
         None => false,
     }
 }

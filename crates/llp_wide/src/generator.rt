@@ -1,23 +1,21 @@
 // The tables of a grammar where two terminals are looked back at, or why it has none.
 
-ghost use Rattle.std.specs.Prelude.{◌≡◌, ◌⊎◌, ◌∷◌, [], IfErr, IfOk, MatchOption};
-ghost use Rattle.grammar_file.specs.declared.symbols.Symbol.TheVariants.{Nonterminal as AnyNonterminal};
+ghost use Rattle.std.specs.Prelude.{◌≡◌, ◌⊎◌, IfErr, IfOk, IfSome};
 ghost use Rattle.grammar_file.specs.Grammar.{IsWellFormed};
-ghost use Rattle.grammar_file.specs.Marks.{AreMarksOf};
 ghost use Rattle.llp_tables.specs.EntryTable.{AreTablesOf, EntryTable};
-ghost use Rattle.ll1_sets.specs.Predict.{IsLl1, IsNullable};
-ghost use Rattle.llp_wide.specs.Places.{AreSpots};
+ghost use Rattle.ll1_sets.specs.Width.{width_of};
+ghost use Rattle.ll1_sets.specs.Predict.{IsLl1};
+ghost use Rattle.llp_wide.specs.Triples.{AreLayers};
 ghost use Rattle.llp_wide.specs.Wide.{IsWideLlp};
 ghost use Rattle.llp_wide.specs.WideEntries.{AreWideTablesOf};
 ghost use Rattle.llp_wide.specs.WideFaults.{IsWideFault};
 ghost use Rattle.llp_wide.specs.declared.fault.WideFault.TheVariants.{Wide as AnyWide, NoMemory};
 
-use crate::conflicts::{WideConflict, least_wide_conflict};
+use crate::conflicts::WideConflict;
 use crate::endings::endings;
 use crate::fault::{WideFault, prediction_fault};
-use crate::places::Place;
 use crate::survey::places;
-use crate::triples::{all_triples, width_of};
+use crate::triples::{Triples, conflict_or_triples, width_of};
 use crate::wide_table::WideTables;
 use grammar_file::Grammar;
 use llp_tables::nullable;
@@ -36,22 +34,18 @@ fn wide_fault(conflict: WideConflict) -> WideFault
     }
 }
 
-/// The tables of a grammar that is LL(1) and LLP(2,1), from the places of its symbols.
-fn wide_tables_by(
-    alloc: Global,
-    grammar: &Grammar,
-    nullable: &[bool],
-    places: &[Place],
-) -> Result<WideTables, AllocError>
+/// The tables of a grammar that is LL(1) and LLP(2,1), if there was memory for all triples.
+fn wide_tables_of(grammar: &Grammar, triples: Option<Triples>) -> Result<WideTables, AllocError>
     requires well_formed { IsWellFormed grammar.now }
     requires ll1 { IsLl1 grammar.now }
     requires llp { IsWideLlp grammar.now }
-    requires nullable { AreMarksOf grammar.now (λ a. IsNullable grammar.now (AnyNonterminal a ∷ [])) nullable.now }
-    requires places { AreSpots grammar.now places.now }
+    requires triples { IfSome triples (λ t. AreLayers grammar.now (width_of grammar.now) t.numbers.items t.pieces.items) }
     ensures { IfOk result (AreWideTablesOf grammar.now) }
 {
-    let triples = all_triples(alloc, grammar, nullable, places)?;
-    Ok(WideTables::new(width_of(grammar), triples))
+    match triples {
+        Some(triples) => Ok(WideTables::new(width_of(grammar), triples)),
+        None => Err(AllocError),
+    }
 }
 
 impl WideTables {
@@ -68,9 +62,15 @@ impl WideTables {
         }
         let endings = endings(alloc, grammar, nullable.as_slice())?;
         let places = places(alloc, grammar, nullable.as_slice(), endings.as_slice())?;
-        match least_wide_conflict(alloc, grammar, nullable.as_slice(), places.as_slice())? {
+        let (conflict, triples) = conflict_or_triples(
+            alloc,
+            grammar,
+            nullable.as_slice(),
+            places.as_slice(),
+        )?;
+        match conflict {
             Some(conflict) => Err(wide_fault(conflict)),
-            None => Ok(wide_tables_by(alloc, grammar, nullable.as_slice(), places.as_slice())?),
+            None => Ok(wide_tables_of(grammar, triples)?),
         }
     }
 }

@@ -12,7 +12,7 @@ ghost use Rattle.llp_wide.specs.Wide.{IsWideLookback};
 ghost use Rattle.llp_wide.specs.WideConflicts.{TellWide};
 
 use crate::endings::endings;
-use crate::places::Place;
+use crate::places::Group;
 use crate::search::least_wide_members;
 use crate::survey::places;
 use grammar_file::Grammar;
@@ -24,7 +24,7 @@ pub(crate) fn members_on(
     alloc: Global,
     grammar: &Grammar,
     nullable: &[bool],
-    places: &[Place],
+    places: &[Group],
     b: u16,
 ) -> Result<Vec<Members>, AllocError>
     requires well_formed { IsWellFormed grammar.now }
@@ -37,7 +37,7 @@ pub(crate) fn members_on(
 }
 
 /// The members of PSLS(z,a,b) for each z and a, where the terminal b comes next: a class of cells for each z, and in it a cell for each
-/// a. A cell keeps the only member of its set, or the two least ones, and nothing where the set is empty. The begin mark is terminal 0,
+/// a, unless all its sets are empty. A cell keeps the only member of its set, or the two least ones, and nothing where the set is empty. The begin mark is terminal 0,
 /// the end mark the one behind the grammar's last terminal.
 pub fn wide_members(alloc: Global, grammar: &Grammar, b: u16) -> Result<Vec<Members>, AllocError>
     ensures { IfOk result (λ v. (z a : ℕ) → KeepsLeast (IsWideLookback grammar.now z a b) (cells_at v.items z (AnyTerminal a))) }

@@ -11,8 +11,7 @@ ghost use Rattle.ll1_sets.specs.Predict.{ArePredictions, IsLl1, IsNullable};
 ghost use Rattle.llp_tables.specs.Slots.{One as OneSlot};
 ghost use Rattle.llp_tables.specs.Tables.{Entry as AnyEntry};
 ghost use Rattle.llp_wide.specs.Triples.{ArePiecesFor, HasNumber, TellsTriple};
-ghost use Rattle.llp_wide.specs.Wide.{IsWideLlp};
-ghost use Rattle.llp_wide.specs.WideConflicts.{TellWide};
+ghost use Rattle.llp_wide.specs.WideConflicts.{IsWideLlpOn, TellWide};
 
 use grammar_file::{Grammar, Symbol};
 use llp_tables::{Cell, Members, add_piece, first, piece_length, predictions};
@@ -179,7 +178,7 @@ pub(crate) fn triple_number(
     pieces: &mut Vec<WidePiece>,
 ) -> Result<Option<u32>, AllocError>
     requires ll1 { IsLl1 grammar.now }
-    requires llp { IsWideLlp grammar.now }
+    requires llp { IsWideLlpOn grammar.now ahead.now.b }
     requires predictions { ArePredictions grammar.now ahead.now.b ahead.now.predictions.items }
     requires classes { TellWide grammar.now ahead.now.b classes.now }
     requires pieces { ArePiecesFor grammar.now ahead.now.b start pieces.old.items }

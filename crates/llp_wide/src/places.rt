@@ -1,15 +1,16 @@
-// The places of symbols in right sides, by the terminals that are matched last before them.
+// The places of symbols in right sides, by the terminals that are matched last before them. Where what stands before a symbol has a
+// terminal, it doesn't matter what is matched last before the right side: such a place is there once for all, with an owner of any terminal.
 
 ghost use Rattle.std.specs.Prelude.{◌≡◌, ◌<◌, ◌+◌, ◌++◌, ◌∷◌, [], length, drop, IfOk};
 ghost use Rattle.llp_wide.specs.Added.{Adds};
-ghost use Rattle.llp_wide.specs.Places.{IsSpotAt, IsSpotOf, IsSpotIn, IsSpotBy, IsSpotUnder};
+ghost use Rattle.llp_wide.specs.Places.{IsSpotAt, IsSpotOf, IsSpotIn, IsSpotBy, IsSpotUnder, IsGathering, IsSpotOn};
 
-use crate::endings::{LastMarks, is_ending};
+use crate::endings::{LastMarks, is_reached};
 use grammar_file::{Production, Symbol};
 use std::alloc::{AllocError, Global};
 use std::marker::Model;
 
-/// A nonterminal that is replaced, and the terminal that is matched last then.
+/// A nonterminal that is replaced, and the terminal that is matched last then, or the number behind all for any terminal.
 #[derive(Clone, Copy)]
 pub(crate) struct Entrance {
     pub before: u16,
@@ -38,6 +39,21 @@ impl Model for Place {
     } };
 }
 
+/// The places of one owner.
+#[derive(Drop)]
+pub(crate) struct Group {
+    pub places: Vec<Place>,
+}
+
+impl Model for Group {
+    ghost use Rattle.std.specs.Prelude.{List};
+    ghost use Rattle.llp_wide.specs.Places.{Spot};
+
+    ghost Value = { List Spot };
+
+    ghost view = { λ g. g.places.items };
+}
+
 // Adds the place of symbol k of a right side, with y matched last, where that can be.
 fn add_place(
     alloc: Global,
@@ -53,7 +69,7 @@ fn add_place(
     requires terminal { y < length all.now }
     ensures { IfOk result (λ u. Adds (IsSpotAt nullable.now all.now owner right.now k y) places.old.items places.new.items) }
 {
-    if !is_ending(nullable, all, owner.before, y, &right[..k]) {
+    if !is_reached(nullable, all, owner.before, y, &right[..k]) {
         return Ok(());
     }
     let after = Vec::from_slice(alloc, &right[k + 1..])?;
@@ -125,8 +141,8 @@ fn add_places_by(
     add_places_in(alloc, nullable, all, owner, rule.right(), places)
 }
 
-/// Adds the places of all right sides of the owner.
-pub(crate) fn add_places(
+// Adds the places of all right sides of the owner.
+fn add_places_under(
     alloc: Global,
     nullable: &[bool],
     all: &[LastMarks],
@@ -141,4 +157,42 @@ pub(crate) fn add_places(
         add_places_by(alloc, nullable, all, owner, productions, i, places)?;
     }
     Ok(())
+}
+
+// Adds the owner itself where any terminal is matched last, unless it is that.
+fn add_gathering(
+    alloc: Global,
+    all: &[LastMarks],
+    owner: Entrance,
+    places: &mut Vec<Place>,
+) -> Result<(), AllocError>
+    requires few { length all.now < 65536 }
+    ensures { IfOk result (λ u. Adds (IsGathering all.now owner) places.old.items places.new.items) }
+{
+    if owner.before as usize == all.len() {
+        return Ok(());
+    }
+    places.push(Place {
+        before: all.len() as u16,
+        symbol: Symbol::Nonterminal(owner.nonterminal),
+        owner,
+        after: Vec::new(alloc),
+    })?;
+    Ok(())
+}
+
+/// Adds the places of the owner: those of its right sides, and itself where any terminal is matched last.
+pub(crate) fn add_places(
+    alloc: Global,
+    nullable: &[bool],
+    all: &[LastMarks],
+    productions: &[Production],
+    owner: Entrance,
+    places: &mut Vec<Place>,
+) -> Result<(), AllocError>
+    requires few { length all.now < 65536 }
+    ensures { IfOk result (λ u. Adds (IsSpotOn nullable.now all.now productions.now owner) places.old.items places.new.items) }
+{
+    add_places_under(alloc, nullable, all, productions, owner, places)?;
+    add_gathering(alloc, all, owner, places)
 }

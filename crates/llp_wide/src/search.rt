@@ -10,31 +10,54 @@ ghost use Rattle.ll1_sets.specs.Predict.{IsNullable, IsFirst};
 ghost use Rattle.llp_tables.specs.Slots.{Empty as EmptySlots, covers};
 ghost use Rattle.llp_wide.specs.Claims.{AreLeastWide, IsLeastClaim, IsPassOf};
 ghost use Rattle.llp_wide.specs.Added.{Adds};
-ghost use Rattle.llp_wide.specs.Classes.{HasWideCell, HasAdded, AreClasses, room_in};
-ghost use Rattle.llp_wide.specs.Places.{AreSpots};
+ghost use Rattle.llp_wide.specs.Classes.{HasWideCell, HasAdded, HasOpened, AreClasses, IsOpen, room_in};
+ghost use Rattle.llp_wide.specs.Places.{AreSpots, spots_behind};
 ghost use Rattle.llp_wide.specs.Settling.{IsWideSettling};
 
 use crate::claims::{Waiting, add_passes, first_waiting, is_covered, least_waiting};
-use crate::places::Place;
+use crate::places::{Group, Place};
 use grammar_file::{Grammar, Symbol};
 use llp_tables::Members;
 use std::alloc::{AllocError, Global};
 
-// Cells with nothing in them, a class of them for each terminal that may be matched last.
-fn empty_classes(
-    alloc: Global,
-    terminals: usize,
-    nonterminals: usize,
-) -> Result<Vec<Members>, AllocError>
-    ensures classes { IfOk result (λ v. AreClasses terminals nonterminals v.items) }
+// A class for each terminal that may be matched last, with no cells yet.
+fn empty_classes(alloc: Global, terminals: usize) -> Result<Vec<Members>, AllocError>
+    ensures classes { IfOk result (λ v. (nonterminals : ℕ) → AreClasses terminals nonterminals v.items) }
     ensures empty { IfOk result (λ v. (z : ℕ) (s : AnySymbol) → cells_at v.items z s ≡ EmptySlots) }
 {
     let mut classes = Vec::new(alloc);
     for _ in 0..terminals {
-        let members = Members::new(alloc, terminals, nonterminals)?;
+        let members = Members::new(alloc, 0, 0)?;
         classes.push(members)?;
     }
     Ok(classes)
+}
+
+// Whether a class has no cells.
+fn is_closed(members: &Members) -> bool
+    ensures closed { result ≡ true → IsOpen 0 0 members.now }
+    ensures open { result ≡ false → IsOpen 0 0 members.now → ⊥ }
+{
+    members.terminals.is_empty() && members.nonterminals.is_empty()
+}
+
+// Gives the class of z its cells, if it has none.
+fn open(
+    alloc: Global,
+    classes: &mut Vec<Members>,
+    z: u16,
+    terminals: usize,
+    nonterminals: usize,
+) -> Result<(), AllocError>
+    requires { z < length classes.old.items }
+    ensures { OnOk result (HasOpened terminals nonterminals classes.old.items classes.new.items z) }
+{
+    if !is_closed(&classes[z as usize]) {
+        return Ok(());
+    }
+    let members = Members::new(alloc, terminals, nonterminals)?;
+    classes[z as usize] = members;
+    Ok(())
 }
 
 // Adds a string to the cell of its symbol, where there is room for it.
@@ -62,20 +85,36 @@ fn copied(alloc: Global, waiting: &Waiting) -> Result<Waiting, AllocError>
     })
 }
 
-// Adds what all places pass on of a string that comes into its cell.
+// The places in the right sides of a symbol, entered with that terminal matched last.
+fn places_behind(groups: &[Group], count: u16, before: u16, symbol: Symbol) -> &[Place]
+    ensures { result.now ≡ spots_behind count groups.now before symbol }
+{
+    match symbol {
+        Symbol::Terminal(_) => &[],
+        Symbol::Nonterminal(a) => {
+            match groups.get(before as usize * count as usize + a as usize) {
+                Some(group) => group.places.as_slice(),
+                None => &[],
+            }
+        }
+    }
+}
+
+// Adds what the places of its symbol pass on of a string that comes into its cell.
 fn pass_on(
     alloc: Global,
     nullable: &[bool],
-    places: &[Place],
+    groups: &[Group],
+    count: u16,
     owner: &Waiting,
     waiting: &mut Vec<Waiting>,
 ) -> Result<(), AllocError>
-    ensures { IfOk result (λ u. Adds (IsPassOf nullable.now owner.now places.now) waiting.old.items waiting.new.items) }
+    ensures { IfOk result (λ u. Adds (IsPassOf nullable.now owner.now (spots_behind count groups.now owner.now.before owner.now.symbol)) waiting.old.items waiting.new.items) }
 {
     add_passes(
         alloc,
         nullable,
-        places,
+        places_behind(groups, count, owner.before, owner.symbol),
         owner.before,
         owner.symbol,
         owner.stack.as_slice(),
@@ -89,7 +128,7 @@ struct Ground<'a> {
     grammar: &'a Grammar,
     nullable: &'a [bool],
     first: &'a [bool],
-    places: &'a [Place],
+    groups: &'a [Group],
     b: u16,
 }
 
@@ -104,15 +143,25 @@ fn take(
     requires well_formed { IsWellFormed ground.now.grammar.now }
     requires nullable { AreMarksOf ground.now.grammar.now (λ a. IsNullable ground.now.grammar.now (AnyNonterminal a ∷ [])) ground.now.nullable.now }
     requires first { AreMarksOf ground.now.grammar.now (λ a. IsFirst ground.now.grammar.now (AnyNonterminal a ∷ []) ground.now.b) ground.now.first.now }
-    requires places { AreSpots ground.now.grammar.now ground.now.places.now }
-    requires classes { AreClasses (length ground.now.grammar.now.terminals + 2) (length ground.now.grammar.now.nonterminals) classes.old.items }
-    requires settling { (last : List AnySymbol) × IsWideSettling ground.now.grammar.now ground.now.nullable.now ground.now.first.now ground.now.b ground.now.places.now last (cells_at classes.old.items) waiting.old.items }
+    requires places { AreSpots ground.now.grammar.now ground.now.groups.now }
+    requires classes { AreClasses (length ground.now.grammar.now.terminals + 3) (length ground.now.grammar.now.nonterminals) classes.old.items }
+    requires settling { (last : List AnySymbol) × IsWideSettling ground.now.grammar.now ground.now.nullable.now ground.now.first.now ground.now.b ground.now.groups.now last (cells_at classes.old.items) waiting.old.items }
     requires least { IsLeastClaim waiting.old.items (cells_at classes.old.items) claim }
-    ensures classes { OnOk result (AreClasses (length ground.now.grammar.now.terminals + 2) (length ground.now.grammar.now.nonterminals) classes.new.items) }
-    ensures settling { OnOk result (IsWideSettling ground.now.grammar.now ground.now.nullable.now ground.now.first.now ground.now.b ground.now.places.now claim.stack (cells_at classes.new.items) waiting.new.items) }
-    ensures room { OnOk result (room_in classes.new.items < room_in classes.old.items) }
+    ensures classes { OnOk result (AreClasses (length ground.now.grammar.now.terminals + 3) (length ground.now.grammar.now.nonterminals) classes.new.items) }
+    ensures settling { OnOk result (IsWideSettling ground.now.grammar.now ground.now.nullable.now ground.now.first.now ground.now.b ground.now.groups.now claim.stack (cells_at classes.new.items) waiting.new.items) }
+    ensures room { OnOk result (room_in (length ground.now.grammar.now.terminals + 3) (length ground.now.grammar.now.nonterminals) classes.new.items < room_in (length ground.now.grammar.now.terminals + 3) (length ground.now.grammar.now.nonterminals) classes.old.items) }
 {
-    pass_on(alloc, ground.nullable, ground.places, &claim, waiting)?;
+    let count = ground.grammar.nonterminal_count();
+    pass_on(
+        alloc,
+        ground.nullable,
+        ground.groups,
+        count,
+        &claim,
+        waiting,
+    )?;
+    let terminals = ground.grammar.terminals().len() + 3;
+    open(alloc, classes, claim.before, terminals, count as usize)?;
     add(classes, claim);
     Ok(())
 }
@@ -137,12 +186,12 @@ fn take_at(
     requires well_formed { IsWellFormed ground.now.grammar.now }
     requires nullable { AreMarksOf ground.now.grammar.now (λ a. IsNullable ground.now.grammar.now (AnyNonterminal a ∷ [])) ground.now.nullable.now }
     requires first { AreMarksOf ground.now.grammar.now (λ a. IsFirst ground.now.grammar.now (AnyNonterminal a ∷ []) ground.now.b) ground.now.first.now }
-    requires places { AreSpots ground.now.grammar.now ground.now.places.now }
-    requires classes { AreClasses (length ground.now.grammar.now.terminals + 2) (length ground.now.grammar.now.nonterminals) classes.old.items }
-    requires settling { IsWideSettling ground.now.grammar.now ground.now.nullable.now ground.now.first.now ground.now.b ground.now.places.now stack.now (cells_at classes.old.items) waiting.old.items }
-    ensures classes { OnOk result (AreClasses (length ground.now.grammar.now.terminals + 2) (length ground.now.grammar.now.nonterminals) classes.new.items) }
-    ensures settling { OnOk result (IsWideSettling ground.now.grammar.now ground.now.nullable.now ground.now.first.now ground.now.b ground.now.places.now stack.now (cells_at classes.new.items) waiting.new.items) }
-    ensures room { OnOk result (room_in classes.new.items ≤ room_in classes.old.items) }
+    requires places { AreSpots ground.now.grammar.now ground.now.groups.now }
+    requires classes { AreClasses (length ground.now.grammar.now.terminals + 3) (length ground.now.grammar.now.nonterminals) classes.old.items }
+    requires settling { IsWideSettling ground.now.grammar.now ground.now.nullable.now ground.now.first.now ground.now.b ground.now.groups.now stack.now (cells_at classes.old.items) waiting.old.items }
+    ensures classes { OnOk result (AreClasses (length ground.now.grammar.now.terminals + 3) (length ground.now.grammar.now.nonterminals) classes.new.items) }
+    ensures settling { OnOk result (IsWideSettling ground.now.grammar.now ground.now.nullable.now ground.now.first.now ground.now.b ground.now.groups.now stack.now (cells_at classes.new.items) waiting.new.items) }
+    ensures room { OnOk result (room_in (length ground.now.grammar.now.terminals + 3) (length ground.now.grammar.now.nonterminals) classes.new.items ≤ room_in (length ground.now.grammar.now.terminals + 3) (length ground.now.grammar.now.nonterminals) classes.old.items) }
 {
     let Some(next) = waiting.get(i) else {
         return Ok(());
@@ -165,12 +214,12 @@ fn take_same(
     requires well_formed { IsWellFormed ground.now.grammar.now }
     requires nullable { AreMarksOf ground.now.grammar.now (λ a. IsNullable ground.now.grammar.now (AnyNonterminal a ∷ [])) ground.now.nullable.now }
     requires first { AreMarksOf ground.now.grammar.now (λ a. IsFirst ground.now.grammar.now (AnyNonterminal a ∷ []) ground.now.b) ground.now.first.now }
-    requires places { AreSpots ground.now.grammar.now ground.now.places.now }
-    requires classes { AreClasses (length ground.now.grammar.now.terminals + 2) (length ground.now.grammar.now.nonterminals) classes.old.items }
-    requires settling { IsWideSettling ground.now.grammar.now ground.now.nullable.now ground.now.first.now ground.now.b ground.now.places.now stack.now (cells_at classes.old.items) waiting.old.items }
-    ensures classes { OnOk result (AreClasses (length ground.now.grammar.now.terminals + 2) (length ground.now.grammar.now.nonterminals) classes.new.items) }
-    ensures settling { OnOk result (IsWideSettling ground.now.grammar.now ground.now.nullable.now ground.now.first.now ground.now.b ground.now.places.now stack.now (cells_at classes.new.items) waiting.new.items) }
-    ensures room { OnOk result (room_in classes.new.items ≤ room_in classes.old.items) }
+    requires places { AreSpots ground.now.grammar.now ground.now.groups.now }
+    requires classes { AreClasses (length ground.now.grammar.now.terminals + 3) (length ground.now.grammar.now.nonterminals) classes.old.items }
+    requires settling { IsWideSettling ground.now.grammar.now ground.now.nullable.now ground.now.first.now ground.now.b ground.now.groups.now stack.now (cells_at classes.old.items) waiting.old.items }
+    ensures classes { OnOk result (AreClasses (length ground.now.grammar.now.terminals + 3) (length ground.now.grammar.now.nonterminals) classes.new.items) }
+    ensures settling { OnOk result (IsWideSettling ground.now.grammar.now ground.now.nullable.now ground.now.first.now ground.now.b ground.now.groups.now stack.now (cells_at classes.new.items) waiting.new.items) }
+    ensures room { OnOk result (room_in (length ground.now.grammar.now.terminals + 3) (length ground.now.grammar.now.nonterminals) classes.new.items ≤ room_in (length ground.now.grammar.now.terminals + 3) (length ground.now.grammar.now.nonterminals) classes.old.items) }
 {
     for i in 0..waiting.len() {
         take_at(alloc, ground, stack, i, classes, waiting)?;
@@ -185,25 +234,25 @@ pub(crate) fn least_wide_members(
     grammar: &Grammar,
     nullable: &[bool],
     first: &[bool],
-    places: &[Place],
+    groups: &[Group],
     b: u16,
 ) -> Result<Vec<Members>, AllocError>
     requires well_formed { IsWellFormed grammar.now }
     requires nullable { AreMarksOf grammar.now (λ a. IsNullable grammar.now (AnyNonterminal a ∷ [])) nullable.now }
     requires first { AreMarksOf grammar.now (λ a. IsFirst grammar.now (AnyNonterminal a ∷ []) b) first.now }
-    requires places { AreSpots grammar.now places.now }
+    requires places { AreSpots grammar.now groups.now }
     ensures { IfOk result (λ v. AreLeastWide grammar.now b (cells_at v.items)) }
 {
     let ground = Ground {
         grammar,
         nullable,
         first,
-        places,
+        groups,
         b,
     };
-    let terminals = grammar.terminals().len() + 2;
-    let mut classes = empty_classes(alloc, terminals, grammar.nonterminals().len())?;
-    let mut waiting = first_waiting(alloc, grammar, nullable, first, places, b)?;
+    let terminals = grammar.terminals().len() + 3;
+    let mut classes = empty_classes(alloc, terminals)?;
+    let mut waiting = first_waiting(alloc, grammar, nullable, first, groups, b)?;
     while let Some(least) = least_waiting(classes.as_slice(), waiting.as_slice()) {
         let claim = copied(alloc, least)?;
         let stack = Vec::from_slice(alloc, claim.stack.as_slice())?;

@@ -1,6 +1,6 @@
 // All places of a grammar's symbols: right sides are walked from the start on, by what is matched last before them.
 
-ghost use Rattle.std.specs.Prelude.{◌≡◌, ◌<◌, ◌+◌, ◌*◌, ℕ, ◌∷◌, ◌++◌, [], length, Some, slice_get, IfOk, MatchOption};
+ghost use Rattle.std.specs.Prelude.{◌≡◌, ◌<◌, ◌+◌, ◌*◌, ℕ, ◌∷◌, ◌++◌, [], length, set, Some, slice_get, slice_index_or, IfOk, MatchOption};
 ghost use Rattle.grammar_file.specs.declared.symbols.Symbol.TheVariants.{Nonterminal as AnyNonterminal};
 ghost use Rattle.grammar_file.specs.Grammar.{IsWellFormed};
 ghost use Rattle.grammar_file.specs.Marks.{AreMarksOf};
@@ -13,7 +13,7 @@ ghost use Rattle.llp_wide.specs.Surveys.{Finds, Opens, OpensIn, HaveRoom, place_
 ghost use Rattle.llp_wide.specs.declared.places.Entrance.{Entrance as AnyEntrance};
 
 use crate::endings::LastMarks;
-use crate::places::{Entrance, Place, add_places};
+use crate::places::{Entrance, Group, Place, add_places};
 use grammar_file::{Grammar, Symbol};
 use llp_tables::no_marks;
 use std::alloc::{AllocError, Global};
@@ -29,7 +29,7 @@ fn enter(
     requires within { place_of count entrance < length marks.old.items }
     ensures { IfOk result (λ u. Finds count (λ e. e ≡ entrance) marks.old.items waiting.old.items marks.new.items waiting.new.items) }
 {
-    let at = entrance.before as usize * count as usize + entrance.nonterminal as usize;
+    let at = place_of(entrance, count);
     if marks[at] {
         return Ok(());
     }
@@ -84,13 +84,43 @@ fn next_entrance(waiting: &mut Vec<Entrance>) -> Option<Entrance>
     waiting.pop()
 }
 
-/// The places of the grammar's symbols in right sides, by what is matched last before the symbol and before the right side.
+// This many owners with no places.
+fn empty_groups(alloc: Global, count: usize) -> Result<Vec<Group>, AllocError>
+    ensures len { IfOk result (λ v. length v.items ≡ count) }
+    ensures none { IfOk result (λ v. (n : ℕ) → slice_index_or v.items n [] ≡ []) }
+{
+    let mut groups = Vec::new(alloc);
+    for _ in 0..count {
+        groups.push(Group {
+            places: Vec::new(alloc),
+        })?;
+    }
+    Ok(groups)
+}
+
+// Keeps the places of an owner.
+fn keep(groups: &mut Vec<Group>, at: usize, places: Vec<Place>)
+    requires { at < length groups.old.items }
+    ensures { groups.new.items ≡ set groups.old.items at places.items }
+{
+    groups[at] = Group { places };
+}
+
+// The number of an entrance, among so many nonterminals.
+fn place_of(entrance: Entrance, count: u16) -> usize
+    ensures { result ≡ place_of count entrance }
+{
+    entrance.before as usize * count as usize + entrance.nonterminal as usize
+}
+
+/// The places of the grammar's symbols in right sides, by what is matched last before the symbol and before the right side. They stand
+/// by their owners' numbers.
 pub(crate) fn places(
     alloc: Global,
     grammar: &Grammar,
     nullable: &[bool],
     all: &[LastMarks],
-) -> Result<Vec<Place>, AllocError>
+) -> Result<Vec<Group>, AllocError>
     requires well_formed { IsWellFormed grammar.now }
     requires reduced { IsReduced grammar.now }
     requires nullable { AreMarksOf grammar.now (λ a. IsNullable grammar.now (AnyNonterminal a ∷ [])) nullable.now }
@@ -98,14 +128,14 @@ pub(crate) fn places(
     ensures { IfOk result (λ v. AreSpots grammar.now v.items) }
 {
     let count = grammar.nonterminal_count();
-    let width = grammar.terminals().len() as u16 + 2;
-    let mut marks = no_marks(alloc, width as usize * count as usize)?;
+    let owners = (grammar.terminals().len() + 3) * count as usize;
+    let mut marks = no_marks(alloc, owners)?;
+    let mut groups = empty_groups(alloc, owners)?;
     let mut waiting = Vec::new(alloc);
     waiting.push(Entrance {
         before: 0,
         nonterminal: 0,
     })?;
-    let mut places = Vec::new(alloc);
     while let Some(entrance) = next_entrance(&mut waiting) {
         let mut own = Vec::new(alloc);
         add_places(
@@ -117,7 +147,7 @@ pub(crate) fn places(
             &mut own,
         )?;
         enter_places(own.as_slice(), count, &mut marks, &mut waiting)?;
-        places.append(&mut own)?;
+        keep(&mut groups, place_of(entrance, count), own);
     }
-    Ok(places)
+    Ok(groups)
 }

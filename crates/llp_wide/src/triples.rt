@@ -1,20 +1,21 @@
 // The numbers of the pieces of all triples, a layer for each terminal that comes next.
 
-ghost use Rattle.std.specs.Prelude.{◌≡◌, ◌<◌, ◌+◌, ◌*◌, ◌∷◌, [], length, IfOk, OnOk};
+ghost use Rattle.std.specs.Prelude.{◌≡◌, ◌<◌, ◌+◌, ◌*◌, ◌∷◌, [], length, true, None, IfOk, IfSome, OnOk, MatchOption};
 ghost use Rattle.grammar_file.specs.declared.symbols.Symbol.TheVariants.{Nonterminal as AnyNonterminal};
 ghost use Rattle.grammar_file.specs.Grammar.{IsWellFormed};
 ghost use Rattle.grammar_file.specs.Marks.{AreMarksOf};
 ghost use Rattle.ll1_sets.specs.Width.{width_of};
 ghost use Rattle.ll1_sets.specs.Predict.{ArePredictions, IsLl1, IsNullable};
 ghost use Rattle.llp_wide.specs.Places.{AreSpots};
-ghost use Rattle.llp_wide.specs.Triples.{AreTriples, AreTriplesUpTo};
-ghost use Rattle.llp_wide.specs.Wide.{IsWideLlp};
-ghost use Rattle.llp_wide.specs.WideConflicts.{TellWide};
+ghost use Rattle.llp_wide.specs.Triples.{AreLayers, AreTriples, AreTriplesUpTo};
+ghost use Rattle.llp_wide.specs.Wide.{IsWideLlp, IsLeastWideConflict};
+ghost use Rattle.llp_wide.specs.WideConflicts.{IsWideLlpOn, LeastWideBelow, TellWide};
 ghost use Rattle.llp_wide.specs.WideEntries.{triple_place};
 
+use crate::conflicts::{WideConflict, conflict_on, lesser};
 use crate::members::members_on;
 use crate::pieces::{Ahead, WidePiece, sets_ahead, triple_number};
-use crate::places::Place;
+use crate::places::Group;
 use grammar_file::Grammar;
 use llp_tables::{Members, empty_lengths};
 use std::alloc::{AllocError, Global};
@@ -47,7 +48,7 @@ fn add_triple(
     triples: &mut Triples,
 ) -> Result<(), AllocError>
     requires ll1 { IsLl1 grammar.now }
-    requires llp { IsWideLlp grammar.now }
+    requires llp { IsWideLlpOn grammar.now ahead.now.b }
     requires predictions { ArePredictions grammar.now ahead.now.b ahead.now.predictions.items }
     requires classes { TellWide grammar.now ahead.now.b classes.now }
     requires before { z < width_of grammar.now }
@@ -84,7 +85,7 @@ fn add_row(
     triples: &mut Triples,
 ) -> Result<(), AllocError>
     requires ll1 { IsLl1 grammar.now }
-    requires llp { IsWideLlp grammar.now }
+    requires llp { IsWideLlpOn grammar.now ahead.now.b }
     requires predictions { ArePredictions grammar.now ahead.now.b ahead.now.predictions.items }
     requires classes { TellWide grammar.now ahead.now.b classes.now }
     requires before { z < width_of grammar.now }
@@ -110,7 +111,7 @@ fn add_layer(
     triples: &mut Triples,
 ) -> Result<(), AllocError>
     requires ll1 { IsLl1 grammar.now }
-    requires llp { IsWideLlp grammar.now }
+    requires llp { IsWideLlpOn grammar.now ahead.now.b }
     requires predictions { ArePredictions grammar.now ahead.now.b ahead.now.predictions.items }
     requires classes { TellWide grammar.now ahead.now.b classes.now }
     requires ahead { ahead.now.b < width_of grammar.now }
@@ -126,37 +127,115 @@ fn add_layer(
     Ok(())
 }
 
-/// The numbers of the pieces of all triples, and the pieces. The cells of one terminal that comes next are kept at a time.
-pub(crate) fn all_triples(
+// The layer of b, from the cells of what is closed where b comes next.
+fn next_layer(
     alloc: Global,
     grammar: &Grammar,
     nullable: &[bool],
-    places: &[Place],
-) -> Result<Triples, AllocError>
+    lengths: &[Option<u64>],
+    classes: &[Members],
+    b: u16,
+    triples: &mut Triples,
+) -> Result<(), AllocError>
+    requires ll1 { IsLl1 grammar.now }
+    requires llp { IsWideLlpOn grammar.now b }
+    requires nullable { AreMarksOf grammar.now (λ a. IsNullable grammar.now (AnyNonterminal a ∷ [])) nullable.now }
+    requires classes { TellWide grammar.now b classes.now }
+    requires ahead { b < width_of grammar.now }
+    requires layers { AreLayers grammar.now b triples.old.numbers.items triples.old.pieces.items }
+    ensures { OnOk result (AreLayers grammar.now (b + 1) triples.new.numbers.items triples.new.pieces.items) }
+{
+    let sets = sets_ahead(alloc, grammar, nullable, b)?;
+    add_layer(alloc, grammar, lengths, &sets, classes, triples)
+}
+
+// Whether there is no conflict.
+fn is_free(conflict: &Option<WideConflict>) -> bool
+    ensures { result ≡ true → conflict.now ≡ None }
+{
+    match conflict {
+        Some(_) => false,
+        None => true,
+    }
+}
+
+// Adds the layer of b where none has been left out so far, there is no conflict, and memory is enough. Tells whether none is left out.
+fn is_added(
+    alloc: Global,
+    grammar: &Grammar,
+    nullable: &[bool],
+    lengths: &[Option<u64>],
+    classes: &[Members],
+    b: u16,
+    is_whole: bool,
+    conflict: &Option<WideConflict>,
+    triples: &mut Triples,
+) -> bool
+    requires ll1 { IsLl1 grammar.now }
+    requires conflict { LeastWideBelow grammar.now (b + 1) conflict.now }
+    requires nullable { AreMarksOf grammar.now (λ a. IsNullable grammar.now (AnyNonterminal a ∷ [])) nullable.now }
+    requires classes { TellWide grammar.now b classes.now }
+    requires ahead { b < width_of grammar.now }
+    requires layers { is_whole ≡ true → AreLayers grammar.now b triples.old.numbers.items triples.old.pieces.items }
+    ensures { result ≡ true → AreLayers grammar.now (b + 1) triples.new.numbers.items triples.new.pieces.items }
+{
+    if !is_whole {
+        return false;
+    }
+    if !is_free(conflict) {
+        return false;
+    }
+    match next_layer(alloc, grammar, nullable, lengths, classes, b, triples) {
+        Ok(()) => true,
+        Err(AllocError) => false,
+    }
+}
+
+// The triples, if they are whole.
+fn triples_if(is_whole: bool, triples: Triples) -> Option<Triples>
+    ensures { IfSome result (λ t. (t ≡ triples) × (is_whole ≡ true)) }
+{
+    if is_whole { Some(triples) } else { None }
+}
+
+/// The least conflict: the least z, then the least a, then the least b, and the two least members of PSLS(z,a,b). There is none
+/// exactly where the grammar is LLP(2,1). Beside it the numbers of the pieces of all triples, and the pieces: where there is no conflict,
+/// unless memory runs out for them. The cells of one b are kept at a time.
+pub(crate) fn conflict_or_triples(
+    alloc: Global,
+    grammar: &Grammar,
+    nullable: &[bool],
+    places: &[Group],
+) -> Result<(Option<WideConflict>, Option<Triples>), AllocError>
     requires well_formed { IsWellFormed grammar.now }
     requires ll1 { IsLl1 grammar.now }
-    requires llp { IsWideLlp grammar.now }
     requires nullable { AreMarksOf grammar.now (λ a. IsNullable grammar.now (AnyNonterminal a ∷ [])) nullable.now }
     requires places { AreSpots grammar.now places.now }
-    ensures triples { IfOk result (λ t. AreTriples grammar.now t.numbers.items t.pieces.items) }
-    ensures len { IfOk result (λ t. length t.numbers.items ≡ width_of grammar.now * width_of grammar.now * width_of grammar.now) }
+    ensures conflict { IfOk result (λ r. MatchOption r.0 (IsWideLlp grammar.now) (λ k. IsLeastWideConflict grammar.now k.z k.a k.b k.first k.second)) }
+    ensures triples { IfOk result (λ r. IfSome r.1 (λ t. AreLayers grammar.now (width_of grammar.now) t.numbers.items t.pieces.items)) }
 {
     let lengths = empty_lengths(alloc, grammar)?;
     let mut triples = Triples {
         numbers: Vec::new(alloc),
         pieces: Vec::new(alloc),
     };
+    let mut best = None;
+    let mut is_whole = true;
     for b in 0..width_of(grammar) {
-        let sets = sets_ahead(alloc, grammar, nullable, b)?;
         let classes = members_on(alloc, grammar, nullable, places, b)?;
-        add_layer(
+        let next = conflict_on(alloc, grammar, classes.as_slice(), b)?;
+        best = lesser(best, next);
+        is_whole = is_added(
             alloc,
             grammar,
+            nullable,
             lengths.as_slice(),
-            &sets,
             classes.as_slice(),
+            b,
+            is_whole,
+            &best,
             &mut triples,
-        )?;
+        );
     }
-    Ok(triples)
+    Ok((best, triples_if(is_whole, triples)))
 }

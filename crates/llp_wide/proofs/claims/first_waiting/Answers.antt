@@ -4,7 +4,7 @@ use Rattle.grammar_file.specs.declared.symbols.Symbol.TheVariants.{Terminal, Non
 use Rattle.grammar_file.specs.Grammar.{begin_mark, end_mark}
 use Rattle.grammar_file.specs.Drive.{first_stack}
 use Rattle.llp_wide.specs.Added.{Adds, SomeBelow}
-use Rattle.llp_wide.specs.Claims.{Claim, IsStopIn, IsStopBy, IsFirstClaim}
+use Rattle.llp_wide.specs.Claims.{Claim, IsStopIn, IsStopOf, IsFirstClaim}
 use Rattle.llp_wide.proofs.Additions.{adds_then}
 use Rattle.llp_wide.proofs.claims.first_waiting.Goals as goal
 
@@ -22,5 +22,5 @@ returns c =
     let both : Adds text [] c.add_stops-2.new.waiting.items =
     adds_then (IsStopIn n f b (first_stack g) begin_mark (Terminal begin_mark)) (IsStopIn n f b (Terminal (end_mark g) ∷ []) begin_mark (Nonterminal 0)) text [] c.add_stops.new.waiting.items c.add_stops-2.new.waiting.items
     (λ x h. inl h) (λ x h. inr h) (λ x h. h) one two in
-    adds_then text (SomeBelow (length c.args.places.now) (IsStopBy n f b c.args.places.now)) (IsFirstClaim n f b g c.args.places.now) [] c.add_stops-2.new.waiting.items c.add_stops_of.new.waiting.items
-    (λ x h. inl h) (λ x h. inr h) (λ x h. h) both c.in_ok-add_stops_of.ensures
+    adds_then text (SomeBelow (length c.args.groups.now) (IsStopOf n f b c.args.groups.now)) (IsFirstClaim n f b g c.args.groups.now) [] c.add_stops-2.new.waiting.items c.add_all_stops.new.waiting.items
+    (λ x h. inl h) (λ x h. inr h) (λ x h. h) both c.in_ok-add_all_stops.ensures

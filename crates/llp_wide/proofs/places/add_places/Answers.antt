@@ -1,6 +1,15 @@
-use Rattle.llp_wide.specs.Places.{IsSpotBy}
-use Rattle.llp_wide.proofs.Additions.{adds_next}
+use Rattle.std.proofs.Common.{inl, inr}
+use Rattle.std.proofs.lemmas.Result.{IfOk-weaker}
+use Rattle.llp_wide.specs.Places.{IsSpotUnder, IsGathering, IsSpotOn}
+use Rattle.llp_wide.proofs.Additions.{adds_then}
 use Rattle.llp_wide.proofs.places.add_places.Goals as goal
 
-pub loop-i-preserved : goal.loop-i-preserved
-loop-i-preserved c = adds_next (IsSpotBy c.args.nullable.now c.args.all.now c.args.owner c.args.productions.now) c.loop-i.i c.args.places.now.items c.loop-i.places.items c.add_places_by.new.places.items c.loop-i.invariant c.in_ok-add_places_by.ensures
+pub returns : goal.returns
+returns c =
+    let n = c.args.nullable.now in
+    let all = c.args.all.now in
+    let ps = c.args.productions.now in
+    let e = c.args.owner in
+    IfOk-weaker c.add_gathering.result _ _
+    (λ u h. adds_then (IsSpotUnder n all ps e) (IsGathering all e) (IsSpotOn n all ps e) c.args.places.now.items c.add_places_under.new.places.items c.add_gathering.new.places.items (λ x k. inl k) (λ x k. inr k) (λ x k. k) c.in_ok-add_places_under.ensures h)
+    c.add_gathering.ensures

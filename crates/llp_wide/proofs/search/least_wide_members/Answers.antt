@@ -9,10 +9,10 @@ use Rattle.llp_wide.proofs.search.least_wide_members.Goals as goal
 pub loop-least-init : goal.loop-least-init
 loop-least-init c =
     record {
-      classes = subst (λ (t : ℕ × ℕ). AreClasses t.0 t.1 c.in_ok-classes.classes.items) (λ i. (length (c.terminals.ensures.names i) + 2, length (c.nonterminals.ensures.names i))) c.in_ok-classes.ensures.classes;
+      classes = subst (λ (t : ℕ). AreClasses t (length c.args.grammar.now.nonterminals) c.in_ok-classes.classes.items) (λ i. length (c.terminals.ensures.names i) + 3) (c.in_ok-classes.ensures.classes (length c.args.grammar.now.nonterminals));
       settling = (
         [],
-        wide_settling_start c.args.grammar.now c.args.nullable.now c.args.first.now c.args.b c.args.places.now c.requires.nullable c.requires.first c.requires.places (cells_at c.in_ok-classes.classes.items) c.in_ok-waiting.waiting.items c.in_ok-classes.ensures.empty
+        wide_settling_start c.args.grammar.now c.args.nullable.now c.args.first.now c.args.b c.args.groups.now c.requires.well_formed c.requires.nullable c.requires.first c.requires.places (cells_at c.in_ok-classes.classes.items) c.in_ok-waiting.waiting.items c.in_ok-classes.ensures.empty
             c.in_ok-waiting.ensures,
       );
     }
@@ -22,4 +22,4 @@ returns c =
     let none : AreClaimsCovered c.loop-least.waiting.items (cells_at c.loop-least.classes.items) =
     subst (λ (t : List Claim × List Members). AreClaimsCovered t.0 (cells_at t.1)) (λ j. (c.as_slice-in-loop-least.ensures.value j, c.as_slice.ensures.value j)) c.in_default.ensures in
     let s = c.loop-least.invariant.settling in
-    wide_settled c.args.grammar.now c.args.nullable.now c.args.first.now c.args.b c.args.places.now c.requires.nullable c.requires.first c.requires.places s.0 (cells_at c.loop-least.classes.items) c.loop-least.waiting.items s.1 none
+    wide_settled c.args.grammar.now c.args.nullable.now c.args.first.now c.args.b c.args.groups.now c.requires.well_formed c.requires.nullable c.requires.first c.requires.places s.0 (cells_at c.loop-least.classes.items) c.loop-least.waiting.items s.1 none

@@ -8,9 +8,9 @@ use Rattle.llp_wide.proofs.search.least_wide_members.Given as goal
 abbrev pub invariant-loop-least : goal.invariant-loop-least
 invariant-loop-least l =
     record {
-      classes : AreClasses (length l.grammar.terminals + 2) (length l.grammar.nonterminals) l.classes.items;
-      settling : (last : List Symbol) × IsWideSettling l.grammar l.nullable l.first l.b l.places last (cells_at l.classes.items) l.waiting.items;
+      classes : AreClasses (length l.grammar.terminals + 3) (length l.grammar.nonterminals) l.classes.items;
+      settling : (last : List Symbol) × IsWideSettling l.grammar l.nullable l.first l.b l.groups last (cells_at l.classes.items) l.waiting.items;
     }
 
 abbrev pub decreases-loop-least : goal.decreases-loop-least
-decreases-loop-least l = room_in l.classes.items
+decreases-loop-least l = room_in (length l.grammar.terminals + 3) (length l.grammar.nonterminals) l.classes.items
