@@ -4,10 +4,10 @@ ghost use Rattle.std.specs.List.{zip};
 ghost use Rattle.chunk_seats.specs.Chunks.{chunk_of};
 ghost use Rattle.par_passes.specs.Passes.{marked};
 
-use crate::chunk::{chunk_slice, count_chunks};
 use crate::crew::by_chunks;
 use chunk_seats::{Crew, Gate, Plan};
 use std::alloc::{AllocError, Global};
+use worker_teams::{chunk_slice, count_chunks};
 
 // The value where it is to be kept, right behind what is in the list.
 pub(crate) fn push_if<T: Copy>(keep: bool, x: T, out: &mut Vec<T>) -> Result<(), AllocError>

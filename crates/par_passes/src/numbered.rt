@@ -4,12 +4,12 @@ ghost use Rattle.std.specs.List.{range_with_len};
 ghost use Rattle.chunk_seats.specs.Chunks.{chunk_of};
 ghost use Rattle.par_passes.specs.Passes.{GaveAt, Gives, marked};
 
-use crate::chunk::{chunk_start, count_chunks};
 use crate::crew::by_chunks;
 use crate::dealt::fill_by_number;
 use crate::marked::push_if;
 use chunk_seats::{Crew, Gate, Plan};
 use std::alloc::{AllocError, Global};
+use worker_teams::{chunk_start, count_chunks};
 
 // Those of so many numbers, from one on, for which the function says true, right behind what is in the list.
 fn choose_onto<F: Fn(usize) -> bool>(
@@ -20,7 +20,9 @@ fn choose_onto<F: Fn(usize) -> bool>(
 ) -> Result<(), AllocError>
     requires room { from + count ≤ 2 ^ 32 }
     requires callable { All (F.pre f.now) (range_with_len from count) }
-    ensures { IfOk result (λ _. (g : ℕ → Bool) → All (λ k. (r : Bool) → F.post f.now k r → r ≡ g k) (range_with_len from count) → out.new.items ≡ out.old.items ++ filter g (range_with_len from count)) }
+    ensures { IfOk result (λ _. (g : ℕ → Bool) →
+        All (λ k. (r : Bool) → F.post f.now k r → r ≡ g k) (range_with_len from count) →
+        out.new.items ≡ out.old.items ++ filter g (range_with_len from count)) }
 {
     for i in 0..count {
         push_if(f(from + i), (from + i) as u32, out)?;
@@ -38,7 +40,9 @@ fn choose_chunk_onto<F: Fn(usize) -> bool>(
 ) -> Result<(), AllocError>
     requires len { len ≤ 2 ^ 32 }
     requires callable { All (F.pre f.now) (range_with_len 0 len) }
-    ensures { IfOk result (λ _. (g : ℕ → Bool) → All (λ k. (r : Bool) → F.post f.now k r → r ≡ g k) (range_with_len 0 len) → out.new.items ≡ out.old.items ++ filter g (chunk_of size (range_with_len 0 len) c)) }
+    ensures { IfOk result (λ _. (g : ℕ → Bool) →
+        All (λ k. (r : Bool) → F.post f.now k r → r ≡ g k) (range_with_len 0 len) →
+        out.new.items ≡ out.old.items ++ filter g (chunk_of size (range_with_len 0 len) c)) }
 {
     let from = chunk_start(len, size, c);
     choose_onto(from, (len - from).min(size as usize), f, out)
