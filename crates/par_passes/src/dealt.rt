@@ -10,6 +10,7 @@ ghost use Rattle.list_parts.specs.declared.part.Part.{Part as Piece};
 ghost use Rattle.par_passes.specs.Dealt.{Serves, InPlace, IsWhole};
 ghost use Rattle.par_passes.specs.Passes.{Gives};
 
+use crate::in_turn::{InTurn, in_turn};
 use chunk_seats::{Crew, Gate, Plan};
 use deal_board::{DealBoard, Goods, Returned, Seat};
 use list_parts::{Part, with_part};
@@ -306,7 +307,31 @@ fn extend_to<U: Copy, F: Fn(usize) -> U>(
     Ok(())
 }
 
-// All that one worker does alone: the chunks in turn, each right behind the one before it.
+// What the function gives for the numbers, chunk by chunk. The first value is there before.
+#[derive(Drop)]
+struct Extending<'a, F> {
+    len: usize,
+    size: u32,
+    f: &'a F,
+}
+
+impl<U: Copy, F: Fn(usize) -> U> InTurn<U> for Extending<'_, F> {
+    ghost use Rattle.std.specs.Prelude.{◌≡◌, ◌*◌, ◌<◌, ◌^◌, All, length, max, min};
+    ghost use Rattle.std.specs.List.{range_with_len};
+    ghost use Rattle.par_passes.specs.Passes.{Gives};
+
+    ghost has = { λ all c filled.
+        ((0 < all.len) × (all.len < 2 ^ 62) × (0 < all.size))
+        × All (F.pre all.f.now) (range_with_len 0 all.len)
+        × (length filled ≡ max (min (c * all.size) all.len) 1)
+        × Gives (F.post all.f.now) (range_with_len 0 (length filled)) filled };
+
+    fn append(&self, c: u64, out: &mut Vec<U>) -> Result<(), AllocError> {
+        extend_to(out, chunk_start(self.len, self.size, c + 1), self.f)
+    }
+}
+
+// All that one worker does alone.
 fn fill_in_turn<C: Crew, U: Copy, F: Fn(usize) -> U>(
     crew: &C,
     plan: &Plan,
@@ -318,14 +343,11 @@ fn fill_in_turn<C: Crew, U: Copy, F: Fn(usize) -> U>(
     ensures { IfOk result (λ v. Gives (F.post f.now) (range_with_len 0 len) v.items) }
 {
     let first = f(0);
+    let size = plan.chunk;
     let mut out = Vec::with_capacity(crew.alloc(), len)?;
     out.push(first)?;
-    for c in 0..count_chunks(len, plan.chunk) as u64 {
-        crew.gate().after_claim(0, Some(c));
-        extend_to(&mut out, chunk_start(len, plan.chunk, c + 1), f)?;
-    }
-    crew.gate().after_claim(0, None);
-    Ok(out)
+    let extending = Extending { len, size, f };
+    in_turn(crew, count_chunks(len, size), out, &extending)
 }
 
 /// What the function gives for the number of each place, by one call each.

@@ -7,6 +7,7 @@ mod crew;
 mod dealt;
 mod each;
 mod fewest;
+mod in_turn;
 mod marked;
 mod numbered;
 mod order;
