@@ -1,6 +1,6 @@
 use Rattle.std.proofs.Common.{List, length, sym, ◌∙◌, subst}
 use Rattle.list_parts.specs.Parts.{Fits}
-use Rattle.list_parts.proofs.lend.with_part.Goals as goal
+use Rattle.list_parts.proofs.list_as_part.with_part.Goals as goal
 
 pub returns : goal.returns
 returns g c = let e = c.with_slots.ensures in let held = e.3.1 in let are = held.2.items ∙ e.2.are in
