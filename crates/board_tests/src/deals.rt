@@ -76,15 +76,16 @@ fn ten_items_and_two_workers(rt: HostRuntime) -> Result<(), Fail> {
     deals::<Brand, _>(&rt, rt.alloc())
 }
 
-// One seat, whose item is taken out and put in again.
+// One seat, whose item is read, and another put in its place.
 fn changes<N: Goods<u64>>(board: &DealBoard<u64, N>, seat: &mut Seat<u64>, c: u64) -> u64
     requires board { seat.old.board ≡ board.now.board }
     requires hand { (x : ℕ) × (seat.old.hand ≡ Some (c, x)) }
     ensures item { seat.old.hand ≡ Some (c, result) }
     ensures left { seat.new ≡ holding seat.old c 10 }
 {
-    let item = board.replace(seat, c, 9);
-    *seat.item_mut(board, c) += 1;
+    let place = seat.item_mut(board, c);
+    let item = *place;
+    *place = 10;
     item
 }
 

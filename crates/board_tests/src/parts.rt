@@ -5,22 +5,24 @@ use list_parts::{Part, with_part};
 use std::test::*;
 use std::thread::{Threads, join};
 
+// The part with these values.
+fn written(part: Part<u64>, values: &[u64]) -> Part<u64>
+    requires { length (part_items part) ≡ length values.now }
+    ensures { SamePlaces part result }
+{
+    let mut part = part;
+    part.as_mut_slice().copy_from_slice(values);
+    part
+}
+
 fn mend(whole: Part<u64>, _nothing: ()) -> (Part<u64>, ())
     requires { (length (part_items whole) ≡ 6) × Fits 8 6 }
     ensures { SamePlaces whole result.0 }
 {
     let (front, rest) = whole.cut(2);
     let (middle, back) = rest.cut(2);
-    let middle = middle.set(0, 30).copy_in(1, &[40]);
+    let middle = written(middle, &[30, 40]);
     (front.glue(middle).glue(back), ())
-}
-
-fn pair(mut part: Part<u64>, first: u64, second: u64) -> Part<u64>
-    requires { length (part_items part) ≡ 2 }
-    ensures { SamePlaces part result }
-{
-    part.map_in(&[first, second], &|x: u64| x);
-    part
 }
 
 fn in_two_threads<R: Threads>(whole: Part<u64>, rt: &R) -> (Part<u64>, ())
@@ -28,7 +30,7 @@ fn in_two_threads<R: Threads>(whole: Part<u64>, rt: &R) -> (Part<u64>, ())
     ensures { SamePlaces whole result.0 }
 {
     let (front, back) = whole.cut(2);
-    let (front, back) = join(rt, || pair(front, 1, 2), || pair(back, 3, 4));
+    let (front, back) = join(rt, || written(front, &[1, 2]), || written(back, &[3, 4]));
     (front.glue(back), ())
 }
 
@@ -39,7 +41,7 @@ fn by_chunks(whole: Part<u64>, room: Vec<Part<u64>>) -> (Part<u64>, ())
     ensures { SamePlaces whole result.0 }
 {
     let glued = Part::glue_all(whole.cut_all(2, 3, room));
-    (glued.copy_in(0, &[10, 20, 30, 40, 50]), ())
+    (written(glued, &[10, 20, 30, 40, 50]), ())
 }
 
 #[test]

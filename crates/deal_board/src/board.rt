@@ -126,7 +126,11 @@ impl<T, N: Goods<T>> DealBoard<T, N> {
         requires unspent { 0 < seat.old.view.share }
         requires good { IfSome seat.old.hand (λ h. N.good h.0 h.1) }
         ensures board { seat.new.board ≡ seat.old.board }
-        ensures drawn { result < self.now.count → (seat.new.view ≡ claiming (settled seat.old.view) result) × (times result seat.old.view.claimed ≡ 0) × (length seat.old.view.claimed < self.now.count) × ((x : T) × (seat.new.hand ≡ Some (result, x)) × (slice_get N.items result ≡ Some x)) }
+        ensures drawn { result < self.now.count →
+            (seat.new.view ≡ claiming (settled seat.old.view) result)
+            × (times result seat.old.view.claimed ≡ 0)
+            × (length seat.old.view.claimed < self.now.count)
+            × ((x : T) × (seat.new.hand ≡ Some (result, x)) × (slice_get N.items result ≡ Some x)) }
         ensures spent { self.now.count ≤ result → (seat.new.view ≡ spending (settled seat.old.view)) × (seat.new.hand ≡ None) }
     {
         self.table
@@ -140,7 +144,11 @@ impl<T, N: Goods<T>> DealBoard<T, N> {
         requires board { seat.old.board ≡ self.now.board }
         requires unspent { 0 < seat.old.view.share }
         requires good { IfSome seat.old.hand (λ h. N.good h.0 h.1) }
-        ensures some { IfSome result (λ c. (c < self.now.count) × ((x : T) × (seat.new ≡ held seat.old.board (claiming (settled seat.old.view) c) (Some (c, x))) × (slice_get N.items c ≡ Some x)) × (times c seat.old.view.claimed ≡ 0) × (length seat.old.view.claimed < self.now.count)) }
+        ensures some { IfSome result (λ c.
+            (c < self.now.count)
+            × ((x : T) × (seat.new ≡ held seat.old.board (claiming (settled seat.old.view) c) (Some (c, x))) × (slice_get N.items c ≡ Some x))
+            × (times c seat.old.view.claimed ≡ 0)
+            × (length seat.old.view.claimed < self.now.count)) }
         ensures none { IfNone result (seat.new ≡ held seat.old.board (spending (settled seat.old.view)) None) }
     {
         let drawn = self.draw::<Brand>(seat);

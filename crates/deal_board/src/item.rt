@@ -19,18 +19,3 @@ impl<T> Seat<T> {
         token.slot_mut(&board.table.shared, c as usize)
     }
 }
-
-impl<T, N: Goods<T>> DealBoard<T, N> {
-    /// The item in the seat's hand, which was drawn as number `c`, with `item` left in its place.
-    pub fn replace(&self, seat: &mut Seat<T>, c: u64, item: T) -> T
-        requires board { seat.old.board ≡ self.now.board }
-        requires hand { (x : T) × (seat.old.hand ≡ Some (c, x)) }
-        ensures item { seat.old.hand ≡ Some (c, result) }
-        ensures left { seat.new.hand ≡ Some (c, item) }
-        ensures seat { seat.new ≡ holding seat.old c item }
-    {
-        self.table
-            .shared
-            .exchange(&mut seat.token, c as usize, item)
-    }
-}

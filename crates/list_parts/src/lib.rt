@@ -2,14 +2,12 @@
 //! glued to its neighbour again.
 #![tactic(auto)]
 
-mod chunks;
-mod cuts;
-mod lend;
-mod lends;
-mod maps;
+mod cut_in_chunks;
+mod cut_in_two;
+mod list_as_part;
 mod part;
-mod rows;
-mod writes;
+mod part_as_slice;
+mod part_as_slots;
 
-pub use lend::with_part;
+pub use list_as_part::with_part;
 pub use part::Part;

@@ -40,7 +40,7 @@ pub(crate) fn bundles<C: Crew, B: Drop + Send, F: Fn(u64) -> Result<B, AllocErro
 {
     let workers = (crew.plan().workers as usize).min(count.max(1)) as u32;
     let (claims, mine) = ClaimBoard::new(crew.alloc(), count as u64, workers)?;
-    let Made { mine, all } = run(crew, &claims, mine, 0, workers, make)?;
+    let Made { mine, all } = run(crew, &claims, mine, workers, make)?;
     claims.close(mine);
     in_order(crew.alloc(), count, all)
 }

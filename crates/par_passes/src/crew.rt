@@ -8,8 +8,8 @@ ghost use Rattle.par_passes.specs.Crews.{Callable, Gave, Makes};
 
 use chunk_seats::{ClaimBoard, Crew, Gate, Seat};
 use scan_lookback::assemble;
-use std::alloc::AllocError;
-use std::thread::join;
+use std::alloc::{AllocError, Global};
+use worker_teams::Task;
 
 // What a group of workers leaves: its seat, and the chunks that it drew with what was made of each.
 #[derive(Drop)]
@@ -18,14 +18,15 @@ pub(crate) struct Made<B: Drop> {
     pub all: Vec<(u64, B)>,
 }
 
-// All that one worker does: it draws chunks until none is left.
-fn work<C: Crew, B: Drop, F: Fn(u64) -> Result<B, AllocError>>(
-    crew: &C,
+// All that one worker does: it draws chunks until none is left. `tell` is told of each claim.
+fn work<B: Drop, F: Fn(u64) -> Result<B, AllocError>, G: Fn(Option<u64>)>(
+    alloc: Global,
     claims: &ClaimBoard,
     mine: &mut Seat,
-    worker: u32,
+    tell: &G,
     make: &F,
 ) -> Result<Vec<(u64, B)>, AllocError>
+    requires told { G.IsAlwaysCallable tell.now }
     requires board { mine.old.board ≡ claims.now.board }
     requires unspent { 0 < mine.old.view.share }
     requires callable { Callable claims.now.chunks (F.pre make.now) }
@@ -35,13 +36,13 @@ fn work<C: Crew, B: Drop, F: Fn(u64) -> Result<B, AllocError>>(
     ensures drawn { IfOk result (λ v. mine.new.view.claimed ≡ mine.old.view.claimed ++ map (λ p. p.0) v.items) }
     ensures made { IfOk result (λ v. All (Gave claims.now.chunks (F.post make.now)) v.items) }
 {
-    let mut all = Vec::new(crew.alloc());
+    let mut all = Vec::new(alloc);
     while let Some(c) = claims.claim(mine) {
-        crew.gate().after_claim(worker, Some(c));
+        tell(Some(c));
         let bundle = make(c)?;
         all.push((c, bundle))?;
     }
-    crew.gate().after_claim(worker, None);
+    tell(None);
     Ok(all)
 }
 
@@ -70,41 +71,71 @@ fn merge<B: Drop, F: Fn(u64) -> Result<B, AllocError>>(
     Ok(Made { mine, all })
 }
 
-// That many workers, each in a thread of its own where threads can be made.
+// The workers of a pass: each draws chunks, and makes a bundle of each.
+#[derive(Drop)]
+struct Making<'a, C, F> {
+    crew: &'a C,
+    claims: &'a ClaimBoard,
+    make: &'a F,
+}
+
+impl<C: Crew, B: Drop + Send, F: Fn(u64) -> Result<B, AllocError> + Sync> Task
+    for Making<'_, C, F> {
+    type Seats = Seat;
+
+    type Made = Result<Made<B>, AllocError>;
+
+    ghost use Rattle.std.specs.Prelude.{◌≡◌, IfOk};
+    ghost use Rattle.chunk_seats.specs.Claims.{fresh};
+    ghost use Rattle.par_passes.specs.Crews.{Callable, Makes};
+
+    ghost begins = { λ task workers mine.
+        (mine.board ≡ task.claims.now.board)
+        × (mine.view ≡ fresh workers)
+        × Callable task.claims.now.chunks (F.pre task.make.now) };
+
+    ghost ends = { λ task workers made.
+        IfOk made (Makes task.claims.now.chunks (F.post task.make.now) task.claims.now.board workers) };
+
+    fn split(&self, mine: &mut Seat, rest: u32, half: u32) -> Seat {
+        let _ = rest;
+        self.claims.split(mine, half)
+    }
+
+    fn work(&self, mine: Seat, worker: u32) -> Result<Made<B>, AllocError> {
+        let mut mine = mine;
+        let tell = |chunk: Option<u64>| self.crew.gate().after_claim(worker, chunk);
+        let all = work(self.crew.alloc(), self.claims, &mut mine, &tell, self.make)?;
+        Ok(Made { mine, all })
+    }
+
+    fn merge(
+        &self,
+        rest: u32,
+        half: u32,
+        one: Result<Made<B>, AllocError>,
+        two: Result<Made<B>, AllocError>,
+    ) -> Result<Made<B>, AllocError> {
+        merge(self.claims, self.make, rest, half, one?, two?)
+    }
+}
+
+// What so many workers make.
 pub(crate) fn run<C: Crew, B: Drop + Send, F: Fn(u64) -> Result<B, AllocError> + Sync>(
     crew: &C,
     claims: &ClaimBoard,
-    mut mine: Seat,
-    first: u32,
+    mine: Seat,
     workers: u32,
     make: &F,
 ) -> Result<Made<B>, AllocError>
     requires board { mine.board ≡ claims.now.board }
     requires new { mine.view ≡ fresh workers }
-    requires workers { (1 ≤ workers) × (first + workers ≤ 64) }
+    requires workers { (1 ≤ workers) × (workers ≤ 64) }
     requires callable { Callable claims.now.chunks (F.pre make.now) }
     ensures { IfOk result (λ r. Makes claims.now.chunks (F.post make.now) claims.now.board workers r) }
 {
-    if workers == 1 {
-        let all = work(crew, claims, &mut mine, first, make)?;
-        return Ok(Made { mine, all });
-    }
-    let half = workers / 2;
-    let rest = workers - half;
-    let after = first + rest;
-    let theirs = claims.split(&mut mine, half);
-    let (one, two) = join(
-        crew.runtime(),
-        move || -> Result<Made<B>, AllocError>
-            requires { (mine.board ≡ claims.now.board) × (mine.view ≡ fresh rest) × (1 ≤ rest) × (first + rest ≤ 64) × Callable claims.now.chunks (F.pre make.now) }
-            ensures { IfOk result (λ r. Makes claims.entry.now.chunks (F.post make.entry.now) claims.entry.now.board rest r) }
-        { run(crew, claims, mine, first, rest, make) },
-        move || -> Result<Made<B>, AllocError>
-            requires { (theirs.board ≡ claims.now.board) × (theirs.view ≡ fresh half) × (1 ≤ half) × (after + half ≤ 64) × Callable claims.now.chunks (F.pre make.now) }
-            ensures { IfOk result (λ r. Makes claims.entry.now.chunks (F.post make.entry.now) claims.entry.now.board half r) }
-        { run(crew, claims, theirs, after, half, make) },
-    );
-    merge(claims, make, rest, half, one?, two?)
+    let making = Making { crew, claims, make };
+    worker_teams::run(crew.runtime(), &making, mine, 0, workers)
 }
 
 /// What is made of each chunk, one behind the other by number, for every crew. `capacity` says how many values there will be.
@@ -119,7 +150,7 @@ pub(crate) fn by_chunks<
 {
     let workers = (crew.plan().workers as usize).min(count.max(1)) as u32;
     let (claims, mine) = ClaimBoard::new(crew.alloc(), count as u64, workers)?;
-    let Made { mine, all } = run(crew, &claims, mine, 0, workers, make)?;
+    let Made { mine, all } = run(crew, &claims, mine, workers, make)?;
     claims.close(mine);
     assemble(crew.alloc(), count, capacity, all)
 }

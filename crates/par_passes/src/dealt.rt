@@ -1,24 +1,22 @@
 //! A list that is filled in place with what a function gives for the number of each place. Workers fill the parts that they draw.
 ghost use Rattle.std.specs.Prelude.{◌≡◌, ℕ, ◌+◌, ◌-◌, ◌<◌, ◌≤◌, ◌^◌, [], min, All, Some, None, length, take, replicate, flat_map, slice_get, vec_capacity, IfOk, IfErr};
 ghost use Rattle.std.specs.List.{range_with_len};
-ghost use Rattle.std.specs.Thread.{IsSync};
 ghost use denote.RawPtr.{Ptr};
 ghost use Rattle.std.specs.Mem.{type_size};
 ghost use Rattle.chunk_seats.specs.Chunks.{chunk_of, chunk_count};
-ghost use Rattle.chunk_seats.specs.Claims.{fresh};
 ghost use Rattle.deal_board.specs.Returned.{returned};
 ghost use Rattle.list_parts.specs.Parts.{part_items, part_start, Chain, Fits, SamePlaces};
 ghost use Rattle.list_parts.specs.declared.part.Part.{Part as Piece};
 ghost use Rattle.par_passes.specs.Dealt.{Serves, InPlace, IsWhole};
 ghost use Rattle.par_passes.specs.Passes.{Gives};
 
-use crate::chunk::{chunk_start, count_chunks};
+use crate::in_turn::{InTurn, in_turn};
 use chunk_seats::{Crew, Gate, Plan};
 use deal_board::{DealBoard, Goods, Returned, Seat};
 use list_parts::{Part, with_part};
 use std::alloc::{AllocError, Global};
 use std::marker::Brand;
-use std::thread::{Threads, join};
+use worker_teams::{Task, chunk_start, count_chunks, run};
 
 // What the function gives for each number from `from` on, at its place. So many of the first values are there already.
 fn fill_behind<U: Copy, F: Fn(usize) -> U>(out: &mut [U], from: usize, known: usize, f: &F)
@@ -46,16 +44,16 @@ fn fill_part<U: Copy, F: Fn(usize) -> U>(part: &mut Part<U>, len: usize, size: u
     fill_behind(part.as_mut_slice(), chunk_start(len, size, c), known, f);
 }
 
-// All that one worker does: it fills the parts that it draws, until none is left.
-fn fill_drawn<U: Copy, F: Fn(usize) -> U, N: Goods<Part<U>>, G: Gate>(
+// All that one worker does: it fills the parts that it draws, until none is left. `tell` is told of each draw.
+fn fill_drawn<U: Copy, F: Fn(usize) -> U, N: Goods<Part<U>>, G: Fn(Option<u64>)>(
     board: &DealBoard<Part<U>, N>,
     mine: &mut Seat<Part<U>>,
-    gate: &G,
-    worker: u32,
+    tell: &G,
     len: usize,
     size: u32,
     f: &F,
 )
+    requires told { G.IsAlwaysCallable tell.now }
     requires board { mine.old.board ≡ board.now.board }
     requires unspent { 0 < mine.old.view.share }
     requires empty { mine.old.hand ≡ None }
@@ -67,61 +65,63 @@ fn fill_drawn<U: Copy, F: Fn(usize) -> U, N: Goods<Part<U>>, G: Gate>(
     ensures spent { (mine.new.view.share ≡ 0) × (mine.new.hand ≡ None) }
 {
     while let Some(c) = board.deal(mine) {
-        gate.after_claim(worker, Some(c));
+        tell(Some(c));
         fill_part(mine.item_mut(board, c), len, size, c, f);
     }
-    gate.after_claim(worker, None);
+    tell(None);
 }
 
-// That many workers, each in a thread of its own where threads can be made.
-fn fill_all<
-    U: Copy + Send + Sync,
-    F: Fn(usize) -> U + Sync,
-    N: Goods<Part<U>> + Send + Sync,
-    G: Gate,
-    R: Threads + Sync,
->(
-    rt: &R,
-    board: &DealBoard<Part<U>, N>,
-    mut mine: Seat<Part<U>>,
-    gate: &G,
-    first: u32,
-    workers: u32,
+// The workers that fill a list: each fills the parts that it draws.
+#[derive(Drop)]
+struct Filling<'a, U, F, N: Goods<Part<U>>, G> {
+    board: &'a DealBoard<Part<U>, N>,
+    gate: &'a G,
     len: usize,
     size: u32,
-    f: &F,
-) -> Seat<Part<U>>
-    requires board { mine.board ≡ board.now.board }
-    requires new { (mine.view ≡ fresh workers) × (mine.hand ≡ None) }
-    requires workers { (1 ≤ workers) × (first + workers ≤ 64) }
-    requires callable { All (F.pre f.now) (range_with_len 0 len) }
-    requires len { len < 2 ^ 62 }
-    requires serves { Serves (F.post f.now) size (range_with_len 0 len) N.items N.good }
-    ensures board { result.board ≡ board.now.board }
-    ensures weight { result.view.weight ≡ workers }
-    ensures spent { (result.view.share ≡ 0) × (result.hand ≡ None) }
-{
-    if workers == 1 {
-        fill_drawn(board, &mut mine, gate, first, len, size, f);
-        return mine;
+    f: &'a F,
+}
+
+impl<U: Copy + Send + Sync, F: Fn(usize) -> U + Sync, N: Goods<Part<U>> + Send + Sync, G: Gate> Task
+    for Filling<'_, U, F, N, G> {
+    type Seats = Seat<Part<U>>;
+
+    type Made = Seat<Part<U>>;
+
+    ghost use Rattle.std.specs.Prelude.{◌≡◌, ◌<◌, ◌^◌, All, None};
+    ghost use Rattle.std.specs.List.{range_with_len};
+    ghost use Rattle.chunk_seats.specs.Claims.{fresh};
+    ghost use Rattle.par_passes.specs.Dealt.{Serves};
+
+    ghost begins = { λ task workers mine.
+        (mine.board ≡ task.board.now.board)
+        × ((mine.view ≡ fresh workers) × (mine.hand ≡ None))
+        × (task.len < 2 ^ 62)
+        × All (F.pre task.f.now) (range_with_len 0 task.len)
+        × Serves (F.post task.f.now) task.size (range_with_len 0 task.len) N.items N.good };
+
+    ghost ends = { λ task workers mine.
+        (mine.board ≡ task.board.now.board)
+        × (mine.view.weight ≡ workers)
+        × ((mine.view.share ≡ 0) × (mine.hand ≡ None)) };
+
+    fn split(&self, mine: &mut Seat<Part<U>>, rest: u32, half: u32) -> Seat<Part<U>> {
+        let _ = rest;
+        self.board.split(mine, half)
     }
-    let half = workers / 2;
-    let rest = workers - half;
-    let after = first + rest;
-    let theirs = board.split(&mut mine, half);
-    let (mut one, two) = join(
-        rt,
-        move || -> Seat<Part<U>>
-            requires { IsSync R.row × (mine.board ≡ board.now.board) × (mine.view ≡ fresh rest) × (mine.hand ≡ None) × (1 ≤ rest) × (first + rest ≤ 64) × (len < 2 ^ 62) × All (F.pre f.now) (range_with_len 0 len) × Serves (F.post f.now) size (range_with_len 0 len) N.items N.good }
-            ensures { (result.board ≡ board.entry.now.board) × (result.view.weight ≡ rest) × (result.view.share ≡ 0) × (result.hand ≡ None) }
-        { fill_all(rt, board, mine, gate, first, rest, len, size, f) },
-        move || -> Seat<Part<U>>
-            requires { IsSync R.row × (theirs.board ≡ board.now.board) × (theirs.view ≡ fresh half) × (theirs.hand ≡ None) × (1 ≤ half) × (after + half ≤ 64) × (len < 2 ^ 62) × All (F.pre f.now) (range_with_len 0 len) × Serves (F.post f.now) size (range_with_len 0 len) N.items N.good }
-            ensures { (result.board ≡ board.entry.now.board) × (result.view.weight ≡ half) × (result.view.share ≡ 0) × (result.hand ≡ None) }
-        { fill_all(rt, board, theirs, gate, after, half, len, size, f) },
-    );
-    board.join(&mut one, two);
-    one
+
+    fn work(&self, mine: Seat<Part<U>>, worker: u32) -> Seat<Part<U>> {
+        let mut mine = mine;
+        let tell = |chunk: Option<u64>| self.gate.after_claim(worker, chunk);
+        fill_drawn(self.board, &mut mine, &tell, self.len, self.size, self.f);
+        mine
+    }
+
+    fn merge(&self, rest: u32, half: u32, one: Seat<Part<U>>, two: Seat<Part<U>>) -> Seat<Part<U>> {
+        let _ = (rest, half);
+        let mut one = one;
+        self.board.join(&mut one, two);
+        one
+    }
 }
 
 // The parts that came back, as one.
@@ -170,17 +170,14 @@ fn fill_parts<
 {
     match DealBoard::<Part<U>, N>::new(crew.alloc(), parts, workers) {
         Ok((board, mine)) => {
-            let mine = fill_all(
-                crew.runtime(),
-                &board,
-                mine,
-                crew.gate(),
-                0,
-                workers,
+            let filling = Filling {
+                board: &board,
+                gate: crew.gate(),
                 len,
                 size,
                 f,
-            );
+            };
+            let mine = run(crew.runtime(), &filling, mine, 0, workers);
             Ok(glue_back(board.close(mine)))
         }
         Err(parts) => Err(parts),
@@ -279,7 +276,11 @@ fn fill_by_parts<C: Crew, U: Copy + Send + Sync, F: Fn(usize) -> U + Sync>(
     let room = Vec::with_capacity(crew.alloc(), count_chunks(len, plan.chunk))?;
     let mut out = begin_list(crew.alloc(), len, f)?;
     let fill = |whole: Part<U>, room: Vec<Part<U>>| -> (Part<U>, Result<(), AllocError>)
-        requires { (0 < len) × (len < 2 ^ 62) × All (F.pre f.now) (range_with_len 0 len) × (length (part_items whole) ≡ len) × Fits (type_size U.row) len × Gives (F.post f.now) (take 1 (range_with_len 0 len)) (take 1 (part_items whole)) × (room.items ≡ []) × (chunk_count plan.now.chunk len ≤ vec_capacity room) }
+        requires { ((0 < len) × (len < 2 ^ 62))
+            × All (F.pre f.now) (range_with_len 0 len)
+            × ((length (part_items whole) ≡ len) × Fits (type_size U.row) len)
+            × Gives (F.post f.now) (take 1 (range_with_len 0 len)) (take 1 (part_items whole))
+            × ((room.items ≡ []) × (chunk_count plan.now.chunk len ≤ vec_capacity room)) }
         ensures place { SamePlaces whole result.0 }
         ensures values { IfOk result.1 (λ _. Gives (F.post f.entry.now) (range_with_len 0 len) (part_items result.0)) }
     { fill_whole(crew, plan, len, f, whole, room) };
@@ -306,7 +307,31 @@ fn extend_to<U: Copy, F: Fn(usize) -> U>(
     Ok(())
 }
 
-// All that one worker does alone: the chunks in turn, each right behind the one before it.
+// What the function gives for the numbers, chunk by chunk. The first value is there before.
+#[derive(Drop)]
+struct Extending<'a, F> {
+    len: usize,
+    size: u32,
+    f: &'a F,
+}
+
+impl<U: Copy, F: Fn(usize) -> U> InTurn<U> for Extending<'_, F> {
+    ghost use Rattle.std.specs.Prelude.{◌≡◌, ◌*◌, ◌<◌, ◌^◌, All, length, max, min};
+    ghost use Rattle.std.specs.List.{range_with_len};
+    ghost use Rattle.par_passes.specs.Passes.{Gives};
+
+    ghost has = { λ all c filled.
+        ((0 < all.len) × (all.len < 2 ^ 62) × (0 < all.size))
+        × All (F.pre all.f.now) (range_with_len 0 all.len)
+        × (length filled ≡ max (min (c * all.size) all.len) 1)
+        × Gives (F.post all.f.now) (range_with_len 0 (length filled)) filled };
+
+    fn append(&self, c: u64, out: &mut Vec<U>) -> Result<(), AllocError> {
+        extend_to(out, chunk_start(self.len, self.size, c + 1), self.f)
+    }
+}
+
+// All that one worker does alone.
 fn fill_in_turn<C: Crew, U: Copy, F: Fn(usize) -> U>(
     crew: &C,
     plan: &Plan,
@@ -318,14 +343,11 @@ fn fill_in_turn<C: Crew, U: Copy, F: Fn(usize) -> U>(
     ensures { IfOk result (λ v. Gives (F.post f.now) (range_with_len 0 len) v.items) }
 {
     let first = f(0);
+    let size = plan.chunk;
     let mut out = Vec::with_capacity(crew.alloc(), len)?;
     out.push(first)?;
-    for c in 0..count_chunks(len, plan.chunk) as u64 {
-        crew.gate().after_claim(0, Some(c));
-        extend_to(&mut out, chunk_start(len, plan.chunk, c + 1), f)?;
-    }
-    crew.gate().after_claim(0, None);
-    Ok(out)
+    let extending = Extending { len, size, f };
+    in_turn(crew, count_chunks(len, size), out, &extending)
 }
 
 /// What the function gives for the number of each place, by one call each.

@@ -2,16 +2,13 @@
 ghost use Rattle.std.specs.Prelude.{◌≡◌, ℕ, ◌+◌, ◌-◌, ◌<◌, ◌≤◌, ◌^◌, All, length, map, fold, min, slice_index_or, IfOk};
 ghost use Rattle.std.specs.List.{range_with_len};
 ghost use Rattle.chunk_seats.specs.Chunks.{chunk_of};
-ghost use Rattle.chunk_seats.specs.Claims.{fresh};
-ghost use Rattle.chunk_seats.specs.Offers.{silent};
 ghost use Rattle.par_passes.specs.Least.{least_key, Offers, IsDone};
 
-use crate::chunk::{chunk_start, count_chunks};
 use chunk_seats::{ClaimBoard, Crew, Gate, LeastSeat, LeastWord, Seat};
 use scan_lookback::Lifted;
 use std::alloc::AllocError;
-use std::marker::Brand;
-use std::thread::join;
+use std::marker::{Brand, PhantomData};
+use worker_teams::{Task, chunk_start, count_chunks, run};
 
 // The two seats of one or more workers.
 #[derive(Drop)]
@@ -50,18 +47,18 @@ fn least_of_chunk<F: Fn(usize) -> u64, K: Lifted<usize>>(
     least_between::<F, K>(f, from, (len - from).min(size as usize))
 }
 
-// All that one worker does: it offers the least key of each chunk that it draws.
-fn offer_chunks<C: Crew, F: Fn(usize) -> u64, K: Lifted<usize>>(
-    crew: &C,
+// All that one worker does: it offers the least key of each chunk that it draws. `tell` is told of each claim.
+fn offer_chunks<F: Fn(usize) -> u64, K: Lifted<usize>, G: Fn(Option<u64>)>(
     word: &LeastWord,
     claims: &ClaimBoard,
     seat: &mut LeastSeat,
     mine: &mut Seat,
     size: u32,
-    worker: u32,
+    tell: &G,
     len: usize,
     f: &F,
 )
+    requires told { G.IsAlwaysCallable tell.now }
     requires boards { (seat.old.board ≡ word.now.board) × (mine.old.board ≡ claims.now.board) }
     requires unspent { 0 < mine.old.view.share }
     requires len { len < 2 ^ 62 }
@@ -74,10 +71,10 @@ fn offer_chunks<C: Crew, F: Fn(usize) -> u64, K: Lifted<usize>>(
     ensures offers { Offers size (map K.code_of (range_with_len 0 len)) mine.new.view.claimed seat.new.view.offered }
 {
     while let Some(c) = claims.claim(mine) {
-        crew.gate().after_claim(worker, Some(c));
+        tell(Some(c));
         word.offer(seat, least_of_chunk::<F, K>(f, len, size, c));
     }
-    crew.gate().after_claim(worker, None);
+    tell(None);
 }
 
 // Two teams are one.
@@ -106,59 +103,76 @@ fn merge<K: Lifted<usize>>(
     Team { seat, mine }
 }
 
-// That many workers, each in a thread of its own where threads can be made.
-fn run<C: Crew, F: Fn(usize) -> u64 + Sync, K: Lifted<usize> + Send + Sync>(
-    crew: &C,
-    word: &LeastWord,
-    claims: &ClaimBoard,
-    mut team: Team,
+// The workers of a search for the least key: each offers the least key of each chunk that it draws. K names the keys.
+#[derive(Drop)]
+struct Offering<'a, C, F, K> {
+    crew: &'a C,
+    word: &'a LeastWord,
+    claims: &'a ClaimBoard,
     size: u32,
-    first: u32,
-    workers: u32,
     len: usize,
-    f: &F,
-) -> Team
-    requires boards { (team.seat.board ≡ word.now.board) × (team.mine.board ≡ claims.now.board) }
-    requires new { (team.seat.view ≡ silent workers) × (team.mine.view ≡ fresh workers) }
-    requires workers { (1 ≤ workers) × (first + workers ≤ 64) }
-    requires len { len < 2 ^ 62 }
-    requires callable { All (F.pre f.now) (range_with_len 0 len) }
-    requires lifts { All (λ k. (r : ℕ) → F.post f.now k r → r ≡ K.code_of k) (range_with_len 0 len) }
-    ensures { IsDone size (map K.code_of (range_with_len 0 len)) word.now.board claims.now.board workers result }
-{
-    if workers == 1 {
-        offer_chunks::<C, F, K>(
-            crew,
-            word,
-            claims,
-            &mut team.seat,
-            &mut team.mine,
-            size,
-            first,
-            len,
-            f,
-        );
-        return team;
+    f: &'a F,
+    keys: PhantomData<K>,
+}
+
+impl<C: Crew, F: Fn(usize) -> u64 + Sync, K: Lifted<usize> + Send + Sync> Task
+    for Offering<'_, C, F, K> {
+    type Seats = Team;
+
+    type Made = Team;
+
+    ghost use Rattle.std.specs.Prelude.{◌≡◌, ℕ, ◌<◌, ◌^◌, All, map};
+    ghost use Rattle.std.specs.List.{range_with_len};
+    ghost use Rattle.chunk_seats.specs.Claims.{fresh};
+    ghost use Rattle.chunk_seats.specs.Offers.{silent};
+    ghost use Rattle.par_passes.specs.Least.{IsDone};
+
+    ghost begins = { λ task workers team.
+        ((team.seat.board ≡ task.word.now.board) × (team.mine.board ≡ task.claims.now.board))
+        × ((team.seat.view ≡ silent workers) × (team.mine.view ≡ fresh workers))
+        × (task.len < 2 ^ 62)
+        × All (F.pre task.f.now) (range_with_len 0 task.len)
+        × All (λ k. (r : ℕ) → F.post task.f.now k r → r ≡ K.code_of k) (range_with_len 0 task.len) };
+
+    ghost ends = { λ task workers team.
+        IsDone task.size (map K.code_of (range_with_len 0 task.len)) task.word.now.board task.claims.now.board workers team };
+
+    fn split(&self, team: &mut Team, rest: u32, half: u32) -> Team {
+        let _ = rest;
+        Team {
+            seat: self.word.split(&mut team.seat, half),
+            mine: self.claims.split(&mut team.mine, half),
+        }
     }
-    let half = workers / 2;
-    let rest = workers - half;
-    let after = first + rest;
-    let other = Team {
-        seat: word.split(&mut team.seat, half),
-        mine: claims.split(&mut team.mine, half),
-    };
-    let (one, two) = join(
-        crew.runtime(),
-        move || -> Team
-            requires { (team.seat.board ≡ word.now.board) × (team.mine.board ≡ claims.now.board) × (team.seat.view ≡ silent rest) × (team.mine.view ≡ fresh rest) × (1 ≤ rest) × (first + rest ≤ 64) × (len < 2 ^ 62) × All (F.pre f.now) (range_with_len 0 len) × All (λ k. (r : ℕ) → F.post f.now k r → r ≡ K.code_of k) (range_with_len 0 len) }
-            ensures { IsDone size (map K.code_of (range_with_len 0 len)) word.entry.now.board claims.entry.now.board rest result }
-        { run::<C, F, K>(crew, word, claims, team, size, first, rest, len, f) },
-        move || -> Team
-            requires { (other.seat.board ≡ word.now.board) × (other.mine.board ≡ claims.now.board) × (other.seat.view ≡ silent half) × (other.mine.view ≡ fresh half) × (1 ≤ half) × (after + half ≤ 64) × (len < 2 ^ 62) × All (F.pre f.now) (range_with_len 0 len) × All (λ k. (r : ℕ) → F.post f.now k r → r ≡ K.code_of k) (range_with_len 0 len) }
-            ensures { IsDone size (map K.code_of (range_with_len 0 len)) word.entry.now.board claims.entry.now.board half result }
-        { run::<C, F, K>(crew, word, claims, other, size, after, half, len, f) },
-    );
-    merge::<K>(word, claims, size, len, rest, half, one, two)
+
+    fn work(&self, team: Team, worker: u32) -> Team {
+        let Team { mut seat, mut mine } = team;
+        let tell = |chunk: Option<u64>| self.crew.gate().after_claim(worker, chunk);
+        offer_chunks::<F, K, _>(
+            self.word,
+            self.claims,
+            &mut seat,
+            &mut mine,
+            self.size,
+            &tell,
+            self.len,
+            self.f,
+        );
+        Team { seat, mine }
+    }
+
+    fn merge(&self, rest: u32, half: u32, one: Team, two: Team) -> Team {
+        merge::<K>(
+            self.word,
+            self.claims,
+            self.size,
+            self.len,
+            rest,
+            half,
+            one,
+            two,
+        )
+    }
 }
 
 // The least key of the numbers below a length.
@@ -177,8 +191,17 @@ fn least_by_number<C: Crew, F: Fn(usize) -> u64 + Sync, K: Lifted<usize> + Send 
     let workers = (plan.workers as usize).min(count.max(1)) as u32;
     let (claims, mine) = ClaimBoard::new(crew.alloc(), count as u64, workers)?;
     let (word, seat) = LeastWord::new(crew.alloc(), workers)?;
+    let offering = Offering::<C, F, K> {
+        crew,
+        word: &word,
+        claims: &claims,
+        size: plan.chunk,
+        len,
+        f,
+        keys: PhantomData,
+    };
     let team = Team { seat, mine };
-    let done = run::<C, F, K>(crew, &word, &claims, team, plan.chunk, 0, workers, len, f);
+    let done = run(crew.runtime(), &offering, team, 0, workers);
     let Team { seat, mine } = done;
     claims.close(mine);
     Ok(word.close(seat))

@@ -3,18 +3,18 @@
 #![tactic(auto)]
 
 mod bundles;
-mod chunk;
 mod crew;
 mod dealt;
 mod each;
 mod fewest;
+mod in_turn;
 mod marked;
 mod numbered;
 mod order;
 mod passes;
 mod places;
 
-pub use chunk::{chunk_start, count_chunks};
 pub use chunk_seats::{Crew, Workers};
 pub use passes::Passes;
 pub use scan_lookback::{Lift, Lifted};
+pub use worker_teams::{chunk_start, count_chunks};

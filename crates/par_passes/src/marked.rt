@@ -4,10 +4,11 @@ ghost use Rattle.std.specs.List.{zip};
 ghost use Rattle.chunk_seats.specs.Chunks.{chunk_of};
 ghost use Rattle.par_passes.specs.Passes.{marked};
 
-use crate::chunk::{chunk_slice, count_chunks};
 use crate::crew::by_chunks;
-use chunk_seats::{Crew, Gate, Plan};
+use crate::in_turn::{InTurn, in_turn};
+use chunk_seats::{Crew, Plan};
 use std::alloc::{AllocError, Global};
+use worker_teams::{chunk_slice, count_chunks};
 
 // The value where it is to be kept, right behind what is in the list.
 pub(crate) fn push_if<T: Copy>(keep: bool, x: T, out: &mut Vec<T>) -> Result<(), AllocError>
@@ -64,7 +65,28 @@ fn keep_chunk<T: Copy>(
     Ok(out)
 }
 
-// All that one worker does alone: the chunks in turn, each right behind the one before it.
+// The marked items, chunk by chunk.
+#[derive(Drop)]
+struct Keeping<'a, T> {
+    items: &'a [T],
+    marks: &'a [bool],
+    size: u32,
+}
+
+impl<T: Copy> InTurn<T> for Keeping<'_, T> {
+    ghost use Rattle.std.specs.Prelude.{◌≡◌, ◌*◌, length, take};
+    ghost use Rattle.par_passes.specs.Passes.{marked};
+
+    ghost has = { λ all c kept.
+        (length all.marks.now ≡ length all.items.now)
+        × (kept ≡ marked (take (c * all.size) all.items.now) (take (c * all.size) all.marks.now)) };
+
+    fn append(&self, c: u64, out: &mut Vec<T>) -> Result<(), AllocError> {
+        keep_chunk_onto(self.items, self.marks, self.size, c, out)
+    }
+}
+
+// All that one worker does alone.
 fn keep_in_turn<C: Crew, T: Copy>(
     crew: &C,
     plan: &Plan,
@@ -75,13 +97,10 @@ fn keep_in_turn<C: Crew, T: Copy>(
     requires marks { length marks.now ≡ length items.now }
     ensures { IfOk result (λ v. v.items ≡ marked items.now marks.now) }
 {
-    let mut out = Vec::with_capacity(crew.alloc(), items.len())?;
-    for c in 0..count_chunks(items.len(), plan.chunk) as u64 {
-        crew.gate().after_claim(0, Some(c));
-        keep_chunk_onto(items, marks, plan.chunk, c, &mut out)?;
-    }
-    crew.gate().after_claim(0, None);
-    Ok(out)
+    let size = plan.chunk;
+    let out = Vec::with_capacity(crew.alloc(), items.len())?;
+    let keeping = Keeping { items, marks, size };
+    in_turn(crew, count_chunks(items.len(), size), out, &keeping)
 }
 
 /// The items that are marked, in the items' order. It is the same for every crew. The only refusal is that memory is out.

@@ -4,12 +4,13 @@ ghost use Rattle.std.specs.List.{range_with_len};
 ghost use Rattle.chunk_seats.specs.Chunks.{chunk_of};
 ghost use Rattle.par_passes.specs.Passes.{GaveAt, Gives, marked};
 
-use crate::chunk::{chunk_start, count_chunks};
 use crate::crew::by_chunks;
 use crate::dealt::fill_by_number;
+use crate::in_turn::{InTurn, in_turn};
 use crate::marked::push_if;
-use chunk_seats::{Crew, Gate, Plan};
+use chunk_seats::{Crew, Plan};
 use std::alloc::{AllocError, Global};
+use worker_teams::{chunk_start, count_chunks};
 
 // Those of so many numbers, from one on, for which the function says true, right behind what is in the list.
 fn choose_onto<F: Fn(usize) -> bool>(
@@ -20,7 +21,9 @@ fn choose_onto<F: Fn(usize) -> bool>(
 ) -> Result<(), AllocError>
     requires room { from + count ≤ 2 ^ 32 }
     requires callable { All (F.pre f.now) (range_with_len from count) }
-    ensures { IfOk result (λ _. (g : ℕ → Bool) → All (λ k. (r : Bool) → F.post f.now k r → r ≡ g k) (range_with_len from count) → out.new.items ≡ out.old.items ++ filter g (range_with_len from count)) }
+    ensures { IfOk result (λ _. (g : ℕ → Bool) →
+        All (λ k. (r : Bool) → F.post f.now k r → r ≡ g k) (range_with_len from count) →
+        out.new.items ≡ out.old.items ++ filter g (range_with_len from count)) }
 {
     for i in 0..count {
         push_if(f(from + i), (from + i) as u32, out)?;
@@ -38,7 +41,9 @@ fn choose_chunk_onto<F: Fn(usize) -> bool>(
 ) -> Result<(), AllocError>
     requires len { len ≤ 2 ^ 32 }
     requires callable { All (F.pre f.now) (range_with_len 0 len) }
-    ensures { IfOk result (λ _. (g : ℕ → Bool) → All (λ k. (r : Bool) → F.post f.now k r → r ≡ g k) (range_with_len 0 len) → out.new.items ≡ out.old.items ++ filter g (chunk_of size (range_with_len 0 len) c)) }
+    ensures { IfOk result (λ _. (g : ℕ → Bool) →
+        All (λ k. (r : Bool) → F.post f.now k r → r ≡ g k) (range_with_len 0 len) →
+        out.new.items ≡ out.old.items ++ filter g (chunk_of size (range_with_len 0 len) c)) }
 {
     let from = chunk_start(len, size, c);
     choose_onto(from, (len - from).min(size as usize), f, out)
@@ -61,7 +66,29 @@ fn choose_chunk<F: Fn(usize) -> bool>(
     Ok(out)
 }
 
-// All that one worker does alone: the chunks in turn, each right behind the one before it.
+// The numbers for which the function says true, chunk by chunk.
+#[derive(Drop)]
+struct Choosing<'a, F> {
+    len: usize,
+    size: u32,
+    f: &'a F,
+}
+
+impl<F: Fn(usize) -> bool> InTurn<u32> for Choosing<'_, F> {
+    ghost use Rattle.std.specs.Prelude.{◌≡◌, ◌≤◌, ◌*◌, ◌^◌, ℕ, Bool, All, filter, take};
+    ghost use Rattle.std.specs.List.{range_with_len};
+
+    ghost has = { λ all c chosen.
+        (all.len ≤ 2 ^ 32)
+        × All (F.pre all.f.now) (range_with_len 0 all.len)
+        × ((g : ℕ → Bool) → All (λ k. (r : Bool) → F.post all.f.now k r → r ≡ g k) (range_with_len 0 all.len) → chosen ≡ filter g (take (c * all.size) (range_with_len 0 all.len))) };
+
+    fn append(&self, c: u64, out: &mut Vec<u32>) -> Result<(), AllocError> {
+        choose_chunk_onto(self.len, self.size, c, self.f, out)
+    }
+}
+
+// All that one worker does alone.
 fn choose_in_turn<C: Crew, F: Fn(usize) -> bool>(
     crew: &C,
     plan: &Plan,
@@ -72,13 +99,10 @@ fn choose_in_turn<C: Crew, F: Fn(usize) -> bool>(
     requires callable { All (F.pre f.now) (range_with_len 0 len) }
     ensures { IfOk result (λ v. (g : ℕ → Bool) → All (λ k. (r : Bool) → F.post f.now k r → r ≡ g k) (range_with_len 0 len) → v.items ≡ filter g (range_with_len 0 len)) }
 {
-    let mut out = Vec::with_capacity(crew.alloc(), len)?;
-    for c in 0..count_chunks(len, plan.chunk) as u64 {
-        crew.gate().after_claim(0, Some(c));
-        choose_chunk_onto(len, plan.chunk, c, f, &mut out)?;
-    }
-    crew.gate().after_claim(0, None);
-    Ok(out)
+    let size = plan.chunk;
+    let out = Vec::with_capacity(crew.alloc(), len)?;
+    let choosing = Choosing { len, size, f };
+    in_turn(crew, count_chunks(len, size), out, &choosing)
 }
 
 // The numbers below a length for which the function says true, in order.

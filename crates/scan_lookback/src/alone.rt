@@ -4,12 +4,12 @@ ghost use Rattle.chunk_seats.specs.Chunks.{chunk_count};
 ghost use Rattle.word_monoid.specs.Folds.{prefixes};
 ghost use Rattle.scan_lookback.specs.Cuts.{Scans};
 
-use crate::chunk::chunk_slice;
 use crate::span::run_onto;
 use crate::views::Chunks;
 use chunk_seats::{Crew, Gate, Plan};
 use std::alloc::AllocError;
 use word_monoid::WordMonoid;
+use worker_teams::chunk_slice;
 
 // All that one worker does alone: the joins before the items of each chunk in turn, right behind those of the chunk before. The gate is
 // told of each chunk.

@@ -101,7 +101,11 @@ impl<'a, M: WordMonoid, N: Chunks<M::Item>> Model for ScanBoard<'a, M, N> {
 
     ghost view = { λ b. record { board = b.table.shared.table_id; monoid = b.monoid.now; chunks = b.chunks; seats = b.table.shared.key } };
 
-    ghost invariant = { λ b. (b.table.shared.table_id.words ≡ max b.chunks 1) × (b.table.shared.table_id.slots ≡ 0) × (b.chunks ≡ length N.sums) × Names (M.ops b.monoid.now) N.sums N.sum_codes N.prefix_codes };
+    ghost invariant = { λ b.
+        (b.table.shared.table_id.words ≡ max b.chunks 1)
+        × (b.table.shared.table_id.slots ≡ 0)
+        × (b.chunks ≡ length N.sums)
+        × Names (M.ops b.monoid.now) N.sums N.sum_codes N.prefix_codes };
 }
 
 /// What a worker publishes and looks with. It knows what it has published and what each of its loads found.

@@ -16,16 +16,7 @@ use std::alloc::{AllocError, Global};
 use std::marker::Brand;
 use std::sync::ledger::Blank;
 use word_monoid::WordMonoid;
-
-// The items of a chunk.
-pub(crate) fn chunk_slice<T>(items: &[T], size: u32, c: u64) -> &[T]
-    requires { c * size < length items.now }
-    ensures { result.now ≡ chunk_of size items.now c }
-{
-    let from = c as usize * size as usize;
-    let to = from + (items.len() - from).min(size as usize);
-    &items[from..to]
-}
+use worker_teams::chunk_slice;
 
 // The sum of a chunk.
 fn chunk_sum<T: Copy, M: WordMonoid, N: Chunks<M::Item>, F: Fn(T) -> M::Item>(
@@ -61,7 +52,9 @@ impl<'a, M: WordMonoid, N: Chunks<M::Item>> ScanBoard<'a, M, N> {
         requires chunk { c < self.now.chunks }
         ensures start { result ≡ prefix_of (M.ops self.now.monoid) N.sums c }
         ensures item { IsItem (M.ops self.now.monoid) result }
-        ensures sealed { (loads : List (ℕ × ℕ)) × (seat.new ≡ held seat.old.board (looks (seat.old.view.shown ++ c ∷ []) (seat.old.view.sealed ++ c ∷ []) (seat.old.view.looked ++ loads) seat.old.view.share)) × IsLookBack c loads }
+        ensures sealed { (loads : List (ℕ × ℕ))
+            × (seat.new ≡ held seat.old.board (looks (seat.old.view.shown ++ c ∷ []) (seat.old.view.sealed ++ c ∷ []) (seat.old.view.looked ++ loads) seat.old.view.share))
+            × IsLookBack c loads }
     {
         let monoid = self.monoid();
         let sum = chunk_sum::<T, M, N, F>(monoid, items, lift, size, c);
@@ -75,7 +68,7 @@ impl<'a, M: WordMonoid, N: Chunks<M::Item>> ScanBoard<'a, M, N> {
         start
     }
 
-    // The same, and the prefixes of the chunk's items.
+    // The same, and the prefixes of the chunk's items: for `work`, by which tests play the protocol's rows.
     pub(crate) fn chunk<T: Copy, F: Fn(T) -> M::Item>(
         &self,
         alloc: Global,
@@ -91,7 +84,9 @@ impl<'a, M: WordMonoid, N: Chunks<M::Item>> ScanBoard<'a, M, N> {
         requires size { 0 < size }
         requires chunk { c < self.now.chunks }
         ensures list { IfOk result (λ v. v.items ≡ chunk_prefixes (M.ops self.now.monoid) size N.items c) }
-        ensures sealed { (loads : List (ℕ × ℕ)) × (seat.new ≡ held seat.old.board (looks (seat.old.view.shown ++ c ∷ []) (seat.old.view.sealed ++ c ∷ []) (seat.old.view.looked ++ loads) seat.old.view.share)) × IsLookBack c loads }
+        ensures sealed { (loads : List (ℕ × ℕ))
+            × (seat.new ≡ held seat.old.board (looks (seat.old.view.shown ++ c ∷ []) (seat.old.view.sealed ++ c ∷ []) (seat.old.view.looked ++ loads) seat.old.view.share))
+            × IsLookBack c loads }
     {
         let monoid = self.monoid();
         let start = self.publish(seat, items, lift, size, c);

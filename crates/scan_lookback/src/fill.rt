@@ -85,7 +85,11 @@ pub(crate) fn fill<
     ensures { out.new ≡ prefixes_from (M.ops monoid.now) N.items 0 (length N.items) }
 {
     let piece = move |from: usize, piece: &mut [M::Item]|
-        requires { All (F.pre lift.now) items.now × Scans (M.ops monoid.now) (F.post lift.now) size items.now N.items N.sums × (starts.now ≡ prefixes_from (M.ops monoid.now) N.sums 0 (length N.sums)) × (0 < size) × (0 < per) × (per * size < 2 ^ 64) × (from % (per * size) ≡ 0) × (0 < length piece.now) × (from + length piece.now ≤ length items.now) }
+        requires { All (F.pre lift.now) items.now
+            × Scans (M.ops monoid.now) (F.post lift.now) size items.now N.items N.sums
+            × (starts.now ≡ prefixes_from (M.ops monoid.now) N.sums 0 (length N.sums))
+            × (0 < size) × (0 < per) × (per * size < 2 ^ 64)
+            × (from % (per * size) ≡ 0) × (0 < length piece.now) × (from + length piece.now ≤ length items.now) }
         ensures { piece.exit.now ≡ prefixes_from (M.ops monoid.entry.now) N.items from (length piece.entry.now) }
     { fill_piece::<T, M, N, F>(monoid, items, lift, size, per, starts, from, piece) };
     for_each_chunk_mut(rt, out, per * size as usize, &piece);

@@ -29,7 +29,7 @@ pub(crate) enum Known<T> {
     Whole(T),
 }
 
-// What the word of a chunk says, which the seat has just loaded.
+// What a word of a chunk says.
 fn read<M: WordMonoid, N: Chunks<M::Item>>(monoid: &M, j: u64, word: u64) -> Look<M::Item>
     requires names { Names (M.ops monoid.now) N.sums N.sum_codes N.prefix_codes }
     requires chunk { j < length N.sums }

@@ -7,12 +7,13 @@ ghost use Rattle.scan_lookback.specs.Made.{Makes};
 
 use crate::board::{ScanBoard, Seat};
 use crate::fill::blank_list;
-use crate::made::{Begun, Made};
+use crate::made::{Begun, Hands, Made};
 use crate::views::Chunks;
-use chunk_seats::{ClaimBoard, Crew, Plan};
+use chunk_seats::{ClaimBoard, Crew, Gate, Plan};
 use std::alloc::AllocError;
 use std::thread::join;
 use word_monoid::WordMonoid;
+use worker_teams::Task;
 
 // Two groups of workers are one.
 fn merge<'a, M: WordMonoid, N: Chunks<M::Item>>(
@@ -44,7 +45,80 @@ fn merge<'a, M: WordMonoid, N: Chunks<M::Item>>(
     Ok(Made { seat, mine, starts })
 }
 
-// That many workers, each in a thread of its own where threads can be made.
+// The workers of a scan: each draws chunks, publishes their sums and looks back.
+#[derive(Drop)]
+struct Scanning<'a, 'b, C, T, M: WordMonoid, N: Chunks<M::Item>, F> {
+    crew: &'a C,
+    plan: &'a Plan,
+    board: &'a ScanBoard<'b, M, N>,
+    claims: &'a ClaimBoard,
+    items: &'a [T],
+    lift: &'a F,
+}
+
+impl<
+    'a,
+    'b,
+    C: Crew,
+    T: Copy + Sync,
+    M: WordMonoid<Item: Send + Sync> + Sync,
+    N: Chunks<M::Item> + Send + Sync,
+    F: Fn(T) -> M::Item + Sync,
+> Task for Scanning<'a, 'b, C, T, M, N, F> {
+    type Seats = Hands;
+
+    type Made = Result<Made<M::Item>, AllocError>;
+
+    ghost use Rattle.std.specs.Prelude.{◌≡◌, All, IfOk};
+    ghost use Rattle.chunk_seats.specs.Claims.{fresh};
+    ghost use Rattle.scan_lookback.specs.Views.{blank};
+    ghost use Rattle.scan_lookback.specs.Cuts.{Scans};
+    ghost use Rattle.scan_lookback.specs.Made.{Makes};
+
+    ghost begins = { λ task workers hands.
+        ((hands.seat.board ≡ task.board.now.board) × (hands.mine.board ≡ task.claims.now.board) × (task.claims.now.chunks ≡ task.board.now.chunks))
+        × ((hands.seat.view ≡ blank workers) × (hands.mine.view ≡ fresh workers))
+        × All (F.pre task.lift.now) task.items.now
+        × Scans (M.ops task.board.now.monoid) (F.post task.lift.now) task.plan.now.chunk task.items.now N.items N.sums };
+
+    ghost ends = { λ task workers made. IfOk made (Makes (M.ops task.board.now.monoid) N.sums task.board.now.board task.claims.now.board workers) };
+
+    fn split(&self, hands: &mut Hands, rest: u32, half: u32) -> Hands {
+        let _ = rest;
+        Hands {
+            seat: self.board.split(&mut hands.seat, half),
+            mine: self.claims.split(&mut hands.mine, half),
+        }
+    }
+
+    fn work(&self, hands: Hands, worker: u32) -> Result<Made<M::Item>, AllocError> {
+        let Hands { mut seat, mut mine } = hands;
+        let tell = |chunk: Option<u64>| self.crew.gate().after_claim(worker, chunk);
+        let starts = self.board.work_starts(
+            self.crew.alloc(),
+            &mut seat,
+            self.claims,
+            &mut mine,
+            self.plan,
+            &tell,
+            self.items,
+            self.lift,
+        )?;
+        Ok(Made { seat, mine, starts })
+    }
+
+    fn merge(
+        &self,
+        rest: u32,
+        half: u32,
+        one: Result<Made<M::Item>, AllocError>,
+        two: Result<Made<M::Item>, AllocError>,
+    ) -> Result<Made<M::Item>, AllocError> {
+        merge(self.board, self.claims, rest, half, one?, two?)
+    }
+}
+
+// That many workers, of which the first has the number `first`.
 fn run<
     'a,
     C: Crew,
@@ -57,8 +131,8 @@ fn run<
     plan: &Plan,
     board: &ScanBoard<'a, M, N>,
     claims: &ClaimBoard,
-    mut seat: Seat,
-    mut mine: chunk_seats::Seat,
+    seat: Seat,
+    mine: chunk_seats::Seat,
     first: u32,
     workers: u32,
     items: &[T],
@@ -71,45 +145,16 @@ fn run<
     requires scans { Scans (M.ops board.now.monoid) (F.post lift.now) plan.now.chunk items.now N.items N.sums }
     ensures { IfOk result (λ r. Makes (M.ops board.now.monoid) N.sums board.now.board claims.now.board workers r) }
 {
-    if workers == 1 {
-        let starts = board.work_starts(
-            crew.alloc(),
-            &mut seat,
-            claims,
-            &mut mine,
-            plan,
-            crew.gate(),
-            first,
-            items,
-            lift,
-        )?;
-        return Ok(Made { seat, mine, starts });
-    }
-    let half = workers / 2;
-    let rest = workers - half;
-    let after = first + rest;
-    let other = board.split(&mut seat, half);
-    let theirs = claims.split(&mut mine, half);
-    let (one, two) = join(
-        crew.runtime(),
-        move || -> Result<Made<M::Item>, AllocError>
-            requires { (seat.board ≡ board.now.board) × (mine.board ≡ claims.now.board) × (claims.now.chunks ≡ board.now.chunks) × (seat.view ≡ blank rest) × (mine.view ≡ fresh rest) × (1 ≤ rest) × (first + rest ≤ 64) × All (F.pre lift.now) items.now × Scans (M.ops board.now.monoid) (F.post lift.now) plan.now.chunk items.now N.items N.sums }
-            ensures { IfOk result (λ r. Makes (M.ops board.entry.now.monoid) N.sums board.entry.now.board claims.entry.now.board rest r) }
-        {
-            run(
-                crew, plan, board, claims, seat, mine, first, rest, items, lift,
-            )
-        },
-        move || -> Result<Made<M::Item>, AllocError>
-            requires { (other.board ≡ board.now.board) × (theirs.board ≡ claims.now.board) × (claims.now.chunks ≡ board.now.chunks) × (other.view ≡ blank half) × (theirs.view ≡ fresh half) × (1 ≤ half) × (after + half ≤ 64) × All (F.pre lift.now) items.now × Scans (M.ops board.now.monoid) (F.post lift.now) plan.now.chunk items.now N.items N.sums }
-            ensures { IfOk result (λ r. Makes (M.ops board.entry.now.monoid) N.sums board.entry.now.board claims.entry.now.board half r) }
-        {
-            run(
-                crew, plan, board, claims, other, theirs, after, half, items, lift,
-            )
-        },
-    );
-    merge(board, claims, rest, half, one?, two?)
+    let scanning = Scanning {
+        crew,
+        plan,
+        board,
+        claims,
+        items,
+        lift,
+    };
+    let hands = Hands { seat, mine };
+    worker_teams::run(crew.runtime(), &scanning, hands, first, workers)
 }
 
 // One worker, and a list for the answer, which it makes before.
@@ -145,8 +190,7 @@ fn first_worker<
         claims,
         &mut mine,
         plan,
-        crew.gate(),
-        0,
+        &|chunk: Option<u64>| crew.gate().after_claim(0, chunk),
         items,
         lift,
     )?;
@@ -188,12 +232,19 @@ pub(crate) fn begin<
     let (one, two) = join(
         crew.runtime(),
         move || -> Result<Begun<M::Item>, AllocError>
-            requires { (seat.board ≡ board.now.board) × (mine.board ≡ claims.now.board) × (claims.now.chunks ≡ board.now.chunks) × (seat.view ≡ blank 1) × (mine.view ≡ fresh 1) × All (F.pre lift.now) items.now × (length items.now < 2 ^ 62) × Scans (M.ops board.now.monoid) (F.post lift.now) plan.now.chunk items.now N.items N.sums }
+            requires { (seat.board ≡ board.now.board) × (mine.board ≡ claims.now.board) × (claims.now.chunks ≡ board.now.chunks)
+                × (seat.view ≡ blank 1) × (mine.view ≡ fresh 1)
+                × All (F.pre lift.now) items.now × (length items.now < 2 ^ 62)
+                × Scans (M.ops board.now.monoid) (F.post lift.now) plan.now.chunk items.now N.items N.sums }
             ensures made { IfOk result (λ r. Makes (M.ops board.entry.now.monoid) N.sums board.entry.now.board claims.entry.now.board 1 r.made) }
             ensures list { IfOk result (λ r. length r.list.items ≡ length items.entry.now) }
         { first_worker(crew, plan, board, claims, seat, mine, items, lift) },
         move || -> Result<Made<M::Item>, AllocError>
-            requires { (other.board ≡ board.now.board) × (theirs.board ≡ claims.now.board) × (claims.now.chunks ≡ board.now.chunks) × (other.view ≡ blank rest) × (theirs.view ≡ fresh rest) × (1 ≤ rest) × (1 + rest ≤ 64) × All (F.pre lift.now) items.now × Scans (M.ops board.now.monoid) (F.post lift.now) plan.now.chunk items.now N.items N.sums }
+            requires { (other.board ≡ board.now.board) × (theirs.board ≡ claims.now.board) × (claims.now.chunks ≡ board.now.chunks)
+                × (other.view ≡ blank rest) × (theirs.view ≡ fresh rest)
+                × (1 ≤ rest) × (1 + rest ≤ 64)
+                × All (F.pre lift.now) items.now
+                × Scans (M.ops board.now.monoid) (F.post lift.now) plan.now.chunk items.now N.items N.sums }
             ensures { IfOk result (λ r. Makes (M.ops board.entry.now.monoid) N.sums board.entry.now.board claims.entry.now.board rest r) }
         {
             run(

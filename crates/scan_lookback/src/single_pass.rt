@@ -17,6 +17,7 @@ use chunk_seats::{ClaimBoard, Crew, Plan};
 use std::alloc::AllocError;
 use std::marker::Brand;
 use word_monoid::WordMonoid;
+use worker_teams::count_chunks;
 
 // The laws, for a caller that starts threads.
 fn know_laws<M: WordMonoid>(monoid: &M)
@@ -45,15 +46,6 @@ fn total<T: Copy, M: WordMonoid, N: Chunks<M::Item>, F: Fn(T) -> M::Item>(
     }
     let last = items[len - 1];
     monoid.join(out[len - 1], lift(last))
-}
-
-// How many chunks of that size the items make.
-fn count_chunks(len: usize, size: u32) -> usize
-    requires len { len < 2 ^ 62 }
-    requires size { (0 < size) × (size ≤ 65536) }
-    ensures { result ≡ chunk_count size len }
-{
-    (len + (size as usize - 1)) / size as usize
 }
 
 // How many chunks of the list each worker fills.
@@ -114,8 +106,8 @@ fn scan_named<
 /// The join of what is made of the items before each item, and then the join of all: one more than there are items. It is the same
 /// for every plan and gate. The only refusal is that memory is out.
 ///
-/// One worker goes through the items once. More workers draw chunks and find the join before each, as `work` does; then each fills a part of
-/// the list, in place.
+/// One worker goes through the items once. More workers draw chunks and find the join before each; then each fills a part of the list, in
+/// place.
 pub fn scan_lifted<
     C: Crew,
     T: Copy + Sync,

@@ -48,7 +48,7 @@ pub(crate) fn run_onto<T: Copy, M: WordMonoid, F: Fn(T) -> M::Item>(
     Ok(sum)
 }
 
-// The same, as a list of their own.
+// The same, as a list of their own: for `work`, by which tests play the protocol's rows.
 pub(crate) fn run_slice<T: Copy, M: WordMonoid, F: Fn(T) -> M::Item>(
     alloc: Global,
     monoid: &M,

@@ -8,26 +8,26 @@ ghost use Rattle.scan_lookback.specs.Worked.{Even, Tidy};
 
 use crate::board::{ScanBoard, Seat};
 use crate::views::Chunks;
-use chunk_seats::{ClaimBoard, Gate, Plan};
+use chunk_seats::{ClaimBoard, Plan};
 use std::alloc::{AllocError, Global};
 use word_monoid::WordMonoid;
 
 impl<'a, M: WordMonoid, N: Chunks<M::Item>> ScanBoard<'a, M, N> {
     // What `work` does, for a list whose items are written when all workers have ended: the answer has each chunk that was drawn, with
-    // the join of the sums before it.
-    pub(crate) fn work_starts<T: Copy, F: Fn(T) -> M::Item, G: Gate>(
+    // the join of the sums before it. `tell` is told of each claim.
+    pub(crate) fn work_starts<T: Copy, F: Fn(T) -> M::Item, G: Fn(Option<u64>)>(
         &self,
         alloc: Global,
         seat: &mut Seat,
         claims: &ClaimBoard,
         mine: &mut chunk_seats::Seat,
         plan: &Plan,
-        gate: &G,
-        worker: u32,
+        tell: &G,
         items: &[T],
         lift: &F,
     ) -> Result<Vec<(u64, M::Item)>, AllocError>
         requires boards { (seat.old.board ≡ self.now.board) × (mine.old.board ≡ claims.now.board) × (claims.now.chunks ≡ self.now.chunks) }
+        requires told { G.IsAlwaysCallable tell.now }
         requires unspent { 0 < mine.old.view.share }
         requires even { Even mine.old.view seat.old.view }
         requires callable { All (F.pre lift.now) items.now }
@@ -43,12 +43,12 @@ impl<'a, M: WordMonoid, N: Chunks<M::Item>> ScanBoard<'a, M, N> {
     {
         let mut all = Vec::new(alloc);
         while let Some(c) = claims.claim(mine) {
-            gate.after_claim(worker, Some(c));
+            tell(Some(c));
             let start = self.publish(seat, items, lift, plan.chunk, c);
             all.push((c, start))?;
             claims.done(mine, c);
         }
-        gate.after_claim(worker, None);
+        tell(None);
         Ok(all)
     }
 }

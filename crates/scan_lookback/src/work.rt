@@ -12,8 +12,10 @@ use std::alloc::{AllocError, Global};
 use word_monoid::WordMonoid;
 
 impl<'a, M: WordMonoid, N: Chunks<M::Item>> ScanBoard<'a, M, N> {
-    /// All that a worker of `scan` does: it draws chunks until none is left. The answer has each chunk that was drawn, with the joins
-    /// before each of its items. Of the two seats it keeps that the chunks claimed, done, shown and sealed are the same.
+    /// A worker of a scan that makes its chunks' lists at once: it draws chunks until none is left. The answer has each chunk that was drawn,
+    /// with the joins before each of its items. Of the two seats it keeps that the chunks claimed, done, shown and sealed are the same.
+    ///
+    /// `scan` itself writes the lists when all workers have ended. This is for tests, which play the protocol's rows by it.
     pub fn work<T: Copy, F: Fn(T) -> M::Item, G: Gate>(
         &self,
         alloc: Global,

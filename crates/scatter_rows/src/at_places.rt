@@ -6,11 +6,12 @@ ghost use Rattle.scatter_rows.specs.Worked.{AreFit, IsCut};
 
 use crate::alone::scatter_alone;
 use crate::cells::Cells;
-use crate::team::{Team, run};
+use crate::team::{Putting, Team};
 use crate::views::Pairs;
 use chunk_seats::{ClaimBoard, Crew};
 use std::alloc::AllocError;
 use std::marker::Brand;
+use worker_teams::run;
 
 /// What `scatter` promises holds of one list at most.
 pub fn scatter_is_unique()
@@ -45,19 +46,15 @@ fn scatter_into<C: Crew, N: Pairs + Send + Sync>(
     let workers = u64::from(plan.workers).min(count.max(1)) as u32;
     let (claims, mine) = ClaimBoard::new(crew.alloc(), count, workers)?;
     let (board, seat) = Cells::<N>::new(crew.alloc(), cells, workers)?;
-    let team = Team { seat, mine };
-    let team = run(
-        crew.runtime(),
-        &board,
-        &claims,
-        team,
-        &plan,
-        crew.gate(),
-        0,
-        workers,
+    let putting = Putting {
+        cells: &board,
+        claims: &claims,
+        plan: &plan,
+        gate: crew.gate(),
         places,
         values,
-    );
+    };
+    let team = run(crew.runtime(), &putting, Team { seat, mine }, 0, workers);
     let Team { seat, mine } = team;
     claims.close(mine);
     board.close(seat, cells);

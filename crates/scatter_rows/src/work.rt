@@ -5,7 +5,7 @@ ghost use Rattle.scatter_rows.specs.Worked.{AreFit, IsCut, Covers};
 
 use crate::cells::{Cells, Seat};
 use crate::views::Pairs;
-use chunk_seats::{ClaimBoard, Gate, Plan};
+use chunk_seats::{ClaimBoard, Plan};
 
 impl<N: Pairs> Cells<N> {
     // The pairs of a chunk.
@@ -26,19 +26,19 @@ impl<N: Pairs> Cells<N> {
         }
     }
 
-    /// Claims chunks until none is left, and tells the gate of each claim.
-    pub(crate) fn work<G: Gate>(
+    /// Claims chunks until none is left, and tells `tell` of each claim.
+    pub(crate) fn work<G: Fn(Option<u64>)>(
         &self,
         seat: &mut Seat,
         claims: &ClaimBoard,
         mine: &mut chunk_seats::Seat,
         plan: &Plan,
-        gate: &G,
-        worker: u32,
+        tell: &G,
         places: &[u64],
         values: &[u64],
     )
         requires boards { (seat.old.board ≡ self.now.board) × (mine.old.board ≡ claims.now.board) }
+        requires told { G.IsAlwaysCallable tell.now }
         requires unspent { 0 < mine.old.view.share }
         requires pairs { (places.now ≡ N.places) × (values.now ≡ N.values) }
         requires fit { AreFit self.now.board.words N.places N.values }
@@ -50,9 +50,9 @@ impl<N: Pairs> Cells<N> {
         ensures covers { Covers (length places.now) plan.now.chunk mine.new.view.claimed seat.new.view.put }
     {
         while let Some(c) = claims.claim(mine) {
-            gate.after_claim(worker, Some(c));
+            tell(Some(c));
             self.put_chunk(seat, places, values, plan.chunk, c);
         }
-        gate.after_claim(worker, None);
+        tell(None);
     }
 }

@@ -15,9 +15,6 @@ loop-c-init g c =
       item = subst (IsItem (g.M.WordMonoid.ops m)) (sym c.unit-sum.ensures) (g.met.M.WordMonoid.lawful m).unit_is_item;
     }
 
-pub chunk_slice-requires : goal.chunk_slice-requires
-chunk_slice-requires g c = chunk_inside (length c.args.items.now) c.args.plan.now.chunk c.loop-c.c c.args.plan.now.chunk_in_range.0 (omega arith)
-
 pub run_onto-requires-clause-items : goal.run_onto-requires-clause-items
 run_onto-requires-clause-items g c = let m = c.args.monoid.now in gives_chunk (g.M.WordMonoid.ops m) _ c.args.plan.now.chunk c.args.items.now g.N.Chunks.items g.N.Chunks.sums c.requires.scans c.loop-c.c _ c.chunk_slice.ensures
 

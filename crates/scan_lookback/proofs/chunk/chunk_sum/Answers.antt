@@ -1,9 +1,6 @@
-use Rattle.scan_lookback.proofs.Cutting.{gives_chunk, sum_of_chunk, chunk_starts, all_chunk}
+use Rattle.scan_lookback.proofs.Cutting.{gives_chunk, sum_of_chunk, all_chunk}
 use Rattle.scan_lookback.proofs.chunk.chunk_sum.Given as given
 use Rattle.scan_lookback.proofs.chunk.chunk_sum.Goals as goal
-
-pub chunk_slice-requires : goal.chunk_slice-requires
-chunk_slice-requires g c = let m = c.args.monoid.now in chunk_starts (g.M.WordMonoid.ops m) _ c.args.size c.args.items.now g.N.Chunks.items g.N.Chunks.sums c.requires.scans c.requires.size c.args.c c.requires.chunk
 
 pub fold_slice-requires-clause-items : goal.fold_slice-requires-clause-items
 fold_slice-requires-clause-items g c = let m = c.args.monoid.now in gives_chunk (g.M.WordMonoid.ops m) _ c.args.size c.args.items.now g.N.Chunks.items g.N.Chunks.sums c.requires.scans c.args.c _ c.chunk_slice.ensures

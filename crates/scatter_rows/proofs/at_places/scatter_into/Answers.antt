@@ -5,7 +5,7 @@ use Rattle.scatter_rows.proofs.at_places.scatter_into.Goals as goal
 
 pub returns : goal.returns
 returns g c =
-    let ran = c.run-team.ensures in
+    let ran = c.run-team.ensures.1 in
     let weighs : c.run-team.result.mine.view.weight ≡ c.in_ok-claims.claims.seats = ran.weight ∙ sym c.in_ok-claims.ensures.1 in
     let chunks = c.in_ok-claims.ensures.0 in
     let all = all_put (length c.args.places.now) c.plan-plan.result.chunk c.in_ok-claims.claims.chunks c.close.result.counter c.run-team.result.mine.view.claimed c.run-team.result.seat.view.put

@@ -1,16 +1,10 @@
 use Rattle.std.proofs.Common.{◌≡◌, ◌<◌, length, ap, ◌∙◌, arith, sym, subst}
 use Rattle.word_monoid.specs.Folds.{prefix_of}
 use Rattle.scan_lookback.specs.Cuts.{chunk_prefixes}
-use Rattle.scan_lookback.proofs.Cutting.{chunk_starts, gives_chunk, list_of_chunk, scans_as, all_chunk}
+use Rattle.scan_lookback.proofs.Cutting.{gives_chunk, list_of_chunk, scans_as, all_chunk}
 use Rattle.scan_lookback.proofs.Working.{if_ok}
 use Rattle.scan_lookback.proofs.board.ScanBoard.chunk.Given as given
 use Rattle.scan_lookback.proofs.board.ScanBoard.chunk.Goals as goal
-
-pub chunk_slice-requires : goal.chunk_slice-requires
-chunk_slice-requires g c =
-    let m = c.args.self.now.monoid in
-    let near : c.args.c < length g.N.Chunks.sums = omega (arith, c.monoid-monoid.ensures.chunks, c.requires.chunk) in
-    chunk_starts (g.M.WordMonoid.ops m) _ c.args.size c.args.items.now g.N.Chunks.items g.N.Chunks.sums c.requires.scans c.requires.size c.args.c near
 
 pub run_slice-requires-clause-items : goal.run_slice-requires-clause-items
 run_slice-requires-clause-items g c =
