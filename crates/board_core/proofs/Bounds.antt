@@ -2,10 +2,10 @@
 use Rattle.std.proofs.Common.{◌≡◌, ℕ, ◌+◌, ◌<◌, ◌≤◌, min, List, [], ◌∷◌, ◌++◌, length, refl, ◌∙◌, arith, length-append}
 use Rattle.word_monoid.specs.Monoid.{Ops}
 use Rattle.chunk_seats.specs.Tallies.{total, times}
-use Rattle.chunk_seats.proofs.Totals.{within_length}
+use Rattle.chunk_seats.specs.Laws.Totals.{within_length}
 use Rattle.board_core.specs.State.{Seat, State, gone, seat_at}
 use Rattle.board_core.specs.Sound.{IsSound}
-use Rattle.board_core.proofs.Lists.{total-has, total-le, times-append, once_length}
+use Rattle.board_core.specs.Laws.Lists.{total-has, total-le, times-append, once_length}
 use Rattle.board_core.proofs.Keeps.{shares_below}
 
 -- the chunks that all seats have claimed

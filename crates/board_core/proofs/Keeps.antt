@@ -13,7 +13,7 @@ use Rattle.board_core.specs.State.{Seat, State, fresh, gone, seat_at, with_seat}
 use Rattle.board_core.specs.Steps.{finishing, showing, sealing, looking, giving, joining}
 use Rattle.board_core.specs.Schedules.{is_lawful, does, play, play_all, start, is_orderly, all_orderly, through}
 use Rattle.board_core.specs.Sound.{Each, IsPublished, IsSealed, status_of, IsHand, IsOrderly, IsOrdered, IsTrueOf, IsSeen, IsLooker, IsSound, IsLast, ClaimsAll, FinishesAll}
-use Rattle.board_core.proofs.Lists.{total-set, total-snoc, total-two, inside, total-le, each-set, each-snoc, times-append, one-same, one-other, by_bool, by_lt, total-join, joined_share, total-whole, once_length}
+use Rattle.board_core.specs.Laws.Lists.{total-set, total-snoc, total-two, inside, total-le, each-set, each-snoc, times-append, one-same, one-other, by_bool, by_lt, total-join, joined_share, total-whole, once_length}
 
 module _ {I : Type 0} (ops : Ops I) (sums : List I) (seats : ℕ) where
   abbrev Sound : State I → Type 0

@@ -1,4 +1,3 @@
-pub mod Lists
 pub mod Keeps
 pub mod Standing
 pub mod Bounds

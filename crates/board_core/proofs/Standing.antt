@@ -6,7 +6,7 @@ use Rattle.chunk_seats.specs.Tallies.{one, times}
 use Rattle.board_core.specs.declared.steps.Status.{Status}
 use Rattle.board_core.specs.State.{Seat, fresh, gone, has}
 use Rattle.board_core.specs.Steps.{shares, giving, joining}
-use Rattle.board_core.proofs.Lists.{one-same, one-other}
+use Rattle.board_core.specs.Laws.Lists.{one-same, one-other}
 
 some_times : (xs : List ℕ) (i n : ℕ) → i < length xs → get_or xs i 0 ≡ n → 0 < times n xs
 some_times [] i n h e = absurd (omega arith)

@@ -4,3 +4,4 @@ pub mod Schedules
 pub mod Sound
 pub mod Worked
 pub mod Held
+pub mod Laws

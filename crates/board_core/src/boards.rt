@@ -92,7 +92,8 @@ impl<M: WordMonoid + Drop> Core<M> {
         ensures sound { IsSound (M.ops self.new.monoid) self.new.sums self.new.seats self.new.state }
         ensures claims { ClaimsAll (length self.new.sums) self.new.seats self.new.state }
         ensures ordered { IsOrdered self.old.state → IsTrue (all_orderly (M.ops self.old.monoid) self.old.sums self.old.state events.now) → IsOrdered self.new.state }
-        ensures finishes { IsOrdered self.old.state → IsTrue (all_orderly (M.ops self.old.monoid) self.old.sums self.old.state events.now) → FinishesAll (length self.new.sums) self.new.seats self.new.state }
+        ensures finishes { IsOrdered self.old.state → IsTrue (all_orderly (M.ops self.old.monoid) self.old.sums self.old.state events.now)
+            → FinishesAll (length self.new.sums) self.new.seats self.new.state }
     {
         self.know_sound();
         for event in events {

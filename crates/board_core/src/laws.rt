@@ -16,8 +16,10 @@ pub fn worked_schedule()
 pub fn every_schedule<M: WordMonoid>(monoid: &M)
     ensures sound { (sums : List M.Item) (seats : ℕ) (events : List Event) → 0 < seats → IsSound (M.ops monoid.now) sums seats (after (M.ops monoid.now) sums seats events) }
     ensures claims { (sums : List M.Item) (seats : ℕ) (events : List Event) → 0 < seats → ClaimsAll (length sums) seats (after (M.ops monoid.now) sums seats events) }
-    ensures ordered { (sums : List M.Item) (seats : ℕ) (events : List Event) → 0 < seats → IsTrue (is_orderly_from_start (M.ops monoid.now) sums seats events) → IsOrdered (after (M.ops monoid.now) sums seats events) }
-    ensures finishes { (sums : List M.Item) (seats : ℕ) (events : List Event) → 0 < seats → IsTrue (is_orderly_from_start (M.ops monoid.now) sums seats events) → FinishesAll (length sums) seats (after (M.ops monoid.now) sums seats events) }
+    ensures ordered { (sums : List M.Item) (seats : ℕ) (events : List Event) → 0 < seats → IsTrue (is_orderly_from_start (M.ops monoid.now) sums seats events)
+        → IsOrdered (after (M.ops monoid.now) sums seats events) }
+    ensures finishes { (sums : List M.Item) (seats : ℕ) (events : List Event) → 0 < seats → IsTrue (is_orderly_from_start (M.ops monoid.now) sums seats events)
+        → FinishesAll (length sums) seats (after (M.ops monoid.now) sums seats events) }
 {
     let _ = monoid;
 }

@@ -18,7 +18,7 @@ use Rattle.board_core.specs.State.{Seat, State, has, fresh, gone, seat_at, statu
 use Rattle.board_core.specs.Steps as core
 use Rattle.board_core.specs.Schedules.{is_lawful, does, sum_at, through}
 use Rattle.board_core.specs.Sound.{IsTrueOf}
-use Rattle.board_core.proofs.Lists.{each-set, each-snoc}
+use Rattle.board_core.specs.Laws.Lists.{each-set, each-snoc}
 use Rattle.board_steps.specs.Parts.{StatusTable, at_least_one, word_of, look_view, status_part, IsStatusPart}
 use Rattle.board_steps.specs.Running.{RunsShow, RunsSeal, RunsLook, RunsStatusSplit, RunsStatusJoin}
 use Rattle.board_steps.specs.Events.{seen, IsStatusEvent}

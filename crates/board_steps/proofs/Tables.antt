@@ -9,10 +9,10 @@ use Rattle.word_monoid.specs.Folds.{prefix_of}
 use Rattle.chunk_seats.specs.declared.views.ClaimView.{ClaimView}
 use Rattle.chunk_seats.specs.Tallies.{times}
 use Rattle.chunk_seats.specs.Claims.{claiming, spending}
-use Rattle.chunk_seats.proofs.Totals.{total_le, within_length}
+use Rattle.chunk_seats.specs.Laws.Totals.{total_le, within_length}
 use Rattle.scan_lookback.specs.declared.views.LookView.{LookView}
-use Rattle.scan_lookback.proofs.Lists.{get_there}
-use Rattle.scan_lookback.proofs.Coded.{sum_coded, prefix_coded}
+use Rattle.scan_lookback.specs.Laws.Lists.{get_there}
+use Rattle.scan_lookback.specs.Laws.Coded.{sum_coded, prefix_coded}
 use Rattle.board_steps.specs.Running.{moved}
 use Rattle.board_steps.specs.Ties.{DrawsAreClaims, FinishesAreDone, StoresAreShown, StoresAreSealed, LoadsAreLooks}
 

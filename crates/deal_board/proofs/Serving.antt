@@ -13,8 +13,8 @@ use Rattle.chunk_seats.specs.declared.views.Deal.{Deal}
 use Rattle.chunk_seats.specs.Tallies.{total, one, times, OnceBelow, Every}
 use Rattle.chunk_seats.specs.Claims.{fresh, claiming, spending, giving, joining}
 use Rattle.chunk_seats.specs.Dealing.{Fits, Dealt}
-use Rattle.chunk_seats.proofs.Dealing.{cuts, joins}
-use Rattle.chunk_seats.proofs.Totals.{total_set, total_snoc, total_part, total_alone, total_le, every_set, one_same, one_other, times-append, times_snoc}
+use Rattle.chunk_seats.specs.Laws.Dealing.{cuts, joins}
+use Rattle.chunk_seats.specs.Laws.Totals.{total_set, total_snoc, total_part, total_alone, total_le, every_set, one_same, one_other, times-append, times_snoc}
 use Rattle.deal_board.specs.Held.{settled, in_hand}
 use Rattle.deal_board.specs.Returned.{AreLeft}
 use Rattle.deal_board.specs.Rule.{claim_board, Served, Carries, Deals}

@@ -1,4 +1,3 @@
-pub mod Counting
 pub mod Placing
 pub mod Judging
 pub mod Spelled

@@ -1,2 +1,3 @@
 -- The files of this folder.
 pub mod Front
+pub mod Laws

@@ -122,7 +122,8 @@ pub fn typed(
     requires few { length rows.now ≤ 2 ^ 25 }
     ensures typed { IfOk result (λ v. (t : Tree Prog) → AreRows source.now rows.now t → AreNamesOf names.now (ast t) → type_faults (ast t) ≡ []) }
     ensures types { IfOk result (λ v. (t : Tree Prog) → AreRows source.now rows.now t → AreNamesOf names.now (ast t) → v ≡ types (ast t)) }
-    ensures refused { (t : Tree Prog) → AreRows source.now rows.now t → scope_faults (length (tokens_of source.now)) (ast t) ≡ [] → AreNamesOf names.now (ast t) → IfErr result (IsRefusedBy source.now) }
+    ensures refused { (t : Tree Prog) → AreRows source.now rows.now t → scope_faults (length (tokens_of source.now)) (ast t) ≡ [] → AreNamesOf names.now (ast t)
+        → IfErr result (IsRefusedBy source.now) }
 {
     match check(crew, rows, names) {
         Ok(types) => Ok(types),

@@ -5,7 +5,7 @@ use Rattle.grammar_file.specs.Grammar.{Grammar, begin_mark, end_mark, whole, IsW
 use Rattle.grammar_file.specs.Drive.{Drives, Reads, first_stack}
 use Rattle.grammar_file.specs.Spelling.{IsReduced}
 use Rattle.grammar_file.specs.SyntaxPlace.{IsSyntaxPlace, ended}
-use Rattle.grammar_file.proofs.Drives.{drives_on, drives_of_first, first_of_drives}
+use Rattle.grammar_file.specs.Laws.Drives.{drives_on, drives_of_first, first_of_drives}
 use Rattle.llp_tables.specs.Lookback.{IsStackAfter, IsLookback}
 use Rattle.llp_tables.specs.Tables.{Entry, HasEntry, AreTables}
 use Rattle.glue_summary.specs.declared.behind.Behind.{Behind}

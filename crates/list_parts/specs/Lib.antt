@@ -1,3 +1,4 @@
 pub mod Owned
 pub mod Parts
 pub mod Lent
+pub mod Laws

@@ -8,14 +8,14 @@ use Rattle.grammar_file.specs.Grammar.{Grammar, IsSymbol, IsWellFormed}
 use Rattle.grammar_file.specs.Derivation.{Derives}
 use Rattle.grammar_file.specs.Drive.{Rule}
 use Rattle.grammar_file.specs.Marks.{AreMarksOf}
-use Rattle.grammar_file.proofs.Derives.{derives_step, derives_nil, behind_terminal, first_step}
-use Rattle.grammar_file.proofs.Derivations.{derives-append, derives-rest}
-use Rattle.grammar_file.proofs.Marks.{IsTurn}
+use Rattle.grammar_file.specs.Laws.Derives.{derives_step, derives_nil, behind_terminal, first_step}
+use Rattle.grammar_file.specs.Laws.Derivations.{derives-append, derives-rest}
+use Rattle.grammar_file.specs.Laws.Marks.{IsTurn}
 use Rattle.ll1_sets.specs.Predict.{IsLeftRecursive}
 use Rattle.ll1_sets.specs.Marking.{all_vanish}
 use Rattle.ll1_sets.specs.LeftReached.{AreFrontsMarked, IsLeftClosed, IsLeftReached, IsNextLeft}
-use Rattle.ll1_sets.proofs.FormTests.{and, either, or_left, or_right, marking_turn, Nullable, vanishing, nullable_closed}
-use Rattle.ll1_sets.proofs.FollowMarks.{parts_of, all_at}
+use Rattle.ll1_sets.specs.Laws.FormTests.{and, either, or_left, or_right, marking_turn, Nullable, vanishing, nullable_closed}
+use Rattle.ll1_sets.specs.Laws.FollowMarks.{parts_of, all_at}
 
 pub one_more_below : (P : ℕ → Type 0) (a : ℕ) → ((n : ℕ) → n < a → ¬ P n) → ¬ P a → (n : ℕ) → n < a + 1 → ¬ P n
 one_more_below P a before at n l = go (cases_lt n a)

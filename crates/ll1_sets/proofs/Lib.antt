@@ -1,10 +1,3 @@
-pub mod BehindRules
-pub mod FormTests
-pub mod FollowSets
-pub mod BehindBounds
-pub mod FollowMarks
 pub mod PredictSets
 pub mod PredictionLists
 pub mod FrontMarks
-pub mod Ll1
-pub mod LeftRecursion

@@ -10,9 +10,9 @@ use Rattle.ll1_sets.specs.Width.{width_of}
 use Rattle.ll1_sets.specs.Marking.{begins, all_vanish, comes_behind}
 use Rattle.ll1_sets.specs.declared.conflicts.Conflict.{Conflict}
 use Rattle.ll1_sets.specs.Conflicts.{AreSets, AreTwoLeast, IsNextPredicted, IsLeastOn, IsLeastBelow, LeastOn, LeastBelow}
-use Rattle.ll1_sets.proofs.FormTests.{both, and, either, or_left, or_right, vanishing, beginning, vanishes_exactly, begins_exactly}
-use Rattle.ll1_sets.proofs.FollowSets.{follow_behind}
-use Rattle.ll1_sets.proofs.BehindBounds.{first_within, next_within}
+use Rattle.ll1_sets.specs.Laws.FormTests.{both, and, either, or_left, or_right, vanishing, beginning, vanishes_exactly, begins_exactly}
+use Rattle.ll1_sets.specs.Laws.FollowSets.{follow_behind}
+use Rattle.ll1_sets.specs.Laws.BehindBounds.{first_within, next_within}
 
 module _ (g : Grammar) where
   module _ (b : ℕ) (nulls firsts follows : List Bool) (sets : AreSets g b nulls firsts follows) where

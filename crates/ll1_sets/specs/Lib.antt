@@ -4,3 +4,4 @@ pub mod Marking
 pub mod Conflicts
 pub mod LeftReached
 pub mod Behind
+pub mod Laws

@@ -9,8 +9,8 @@ use Rattle.llp_tables.specs.Forced.{is_stop}
 use Rattle.ll1_sets.specs.Marking.{vanishes, all_vanish, starts}
 use Rattle.llp_tables.specs.Slots.{Slots, covers}
 use Rattle.llp_tables.specs.Tables.{stack_lt}
-use Rattle.ll1_sets.proofs.FormTests.{both, and}
-use Rattle.llp_tables.proofs.StackOrder.{before_not_itself, before_trans}
+use Rattle.ll1_sets.specs.Laws.FormTests.{both, and}
+use Rattle.llp_tables.specs.Laws.StackOrder.{before_not_itself, before_trans}
 use Rattle.llp_wide.specs.Added.{IsIn, Adds, SomeBelow}
 use Rattle.llp_wide.specs.Places.{Spot}
 use Rattle.llp_wide.specs.Claims.{Claim, IsStopAt, IsStopIn, IsPassAt, AreClaimsCovered, IsLeastClaim}

@@ -10,7 +10,7 @@ use Rattle.llp_tables.specs.Lookbacks.{cells_in, cells_at}
 use Rattle.llp_tables.specs.Slots.{Empty, add, room}
 use Rattle.llp_tables.specs.declared.cells.Cell.{Cell}
 use Rattle.llp_tables.specs.declared.cells.Members.{Members}
-use Rattle.llp_tables.proofs.CellLists.{symbol_cases}
+use Rattle.llp_tables.specs.Laws.CellLists.{symbol_cases}
 use Rattle.llp_wide.specs.Claims.{Claim}
 use Rattle.llp_wide.specs.Classes.{HasWideCell, IsOpen, AreClasses, room_for, room_in, HasOpened, HasAdded}
 use Rattle.llp_wide.specs.WideBehind.{any_before, IsEntered, BehindAny, WideBehind, here, through, of_start, of_begin}

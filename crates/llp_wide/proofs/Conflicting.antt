@@ -9,7 +9,7 @@ use Rattle.llp_tables.specs.LeastMembers.{KeepsLeast}
 use Rattle.llp_tables.specs.Lookbacks.{cells_at, HasNoTwo}
 use Rattle.llp_tables.specs.Slots.{Slots, Empty, One, Two}
 use Rattle.llp_tables.specs.declared.cells.Members.{Members}
-use Rattle.llp_tables.proofs.LookbackBounds.{lookback_in_range}
+use Rattle.llp_tables.specs.Laws.LookbackBounds.{lookback_in_range}
 use Rattle.llp_wide.specs.Wide.{IsWideLookback, IsWideLlp, IsLeastWideConflict}
 use Rattle.llp_wide.specs.WideBehind.{WideBehind, here, through, of_start, of_begin}
 use Rattle.llp_wide.specs.WideConflicts.{TellWide, HasOneAtMost, IsLeastTwoIn, IsLesserPair, IsLeastWideOn, IsLeastWideBelow, LeastWideOn, LeastWideBelow}

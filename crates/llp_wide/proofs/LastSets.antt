@@ -9,13 +9,13 @@ use Rattle.grammar_file.specs.Derivation.{Derives, word_form}
 use Rattle.grammar_file.specs.Drive.{Rule}
 use Rattle.grammar_file.specs.Marks.{AreMarksOf}
 use Rattle.grammar_file.specs.Spelling.{IsReduced}
-use Rattle.grammar_file.proofs.Derives.{derives_step, derives_both, derives_terminal, behind_terminal, first_step, derives_nil}
-use Rattle.grammar_file.proofs.Forms.{Ours, word_of}
-use Rattle.grammar_file.proofs.Marks.{IsTurn}
-use Rattle.grammar_file.proofs.Words.{same_head, same_tail, same_terminal, nil-cons, nonterminal-word}
+use Rattle.grammar_file.specs.Laws.Derives.{derives_step, derives_both, derives_terminal, behind_terminal, first_step, derives_nil}
+use Rattle.grammar_file.specs.Laws.Forms.{Ours, word_of}
+use Rattle.grammar_file.specs.Laws.Marks.{IsTurn}
+use Rattle.grammar_file.specs.Laws.Words.{same_head, same_tail, same_terminal, nil-cons, nonterminal-word}
 use Rattle.ll1_sets.specs.Predict.{IsNullable}
 use Rattle.ll1_sets.specs.Marking.{vanishes, all_vanish, starts, IsNextBy, IsClosedBy}
-use Rattle.ll1_sets.proofs.FormTests.{both, and, either, or_left, or_right, marking_turn, rule_of, Nullable, vanishing, vanishes_exactly, closed_by}
+use Rattle.ll1_sets.specs.Laws.FormTests.{both, and, either, or_left, or_right, marking_turn, rule_of, Nullable, vanishing, vanishes_exactly, closed_by}
 use Rattle.llp_wide.specs.WideBehind.{last_behind, IsEnding}
 use Rattle.llp_wide.specs.Endings.{IsLast, finishes, is_ending}
 

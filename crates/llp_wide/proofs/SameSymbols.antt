@@ -5,7 +5,7 @@ use Rattle.std.proofs.lemmas.Bool.{eqb-true}
 use Rattle.grammar_file.specs.declared.symbols.Symbol.{Symbol}
 use Rattle.grammar_file.specs.declared.symbols.Symbol.TheVariants.{Terminal, Nonterminal}
 use Rattle.grammar_file.specs.contracts.symbols.SymbolPartialEq.TheImpl.{eq-value}
-use Rattle.ll1_sets.proofs.FormTests.{both}
+use Rattle.ll1_sets.specs.Laws.FormTests.{both}
 
 same_symbol : (s t : Symbol) → eq-value.it s t ≡ true → s ≡ t
 same_symbol (Terminal a) (Terminal b) h = ap Terminal (eqb-true a b h)

@@ -5,9 +5,9 @@ use Rattle.grammar_file.specs.declared.symbols.Symbol.TheVariants.{Terminal, Non
 use Rattle.grammar_file.specs.Grammar.{Grammar, begin_mark, whole}
 use Rattle.grammar_file.specs.Derivation.{Derives, word_form, FirstReaches}
 use Rattle.grammar_file.specs.Drive.{Rule, Reads, Drives}
-use Rattle.grammar_file.proofs.Words.{same_head, same_tail, same_terminal, terminal-nonterminal, nil-cons, word-cons, nonterminal-word}
-use Rattle.grammar_file.proofs.Derives.{first_step, derives_nil, derives_terminal, behind_terminal, derives_step, derives_on}
-use Rattle.grammar_file.proofs.Drives.{drives_first, drives_on, drives_split, drives_derives, first_of_drives, drives_of_first}
+use Rattle.grammar_file.specs.Laws.Words.{same_head, same_tail, same_terminal, terminal-nonterminal, nil-cons, word-cons, nonterminal-word}
+use Rattle.grammar_file.specs.Laws.Derives.{first_step, derives_nil, derives_terminal, behind_terminal, derives_step, derives_on}
+use Rattle.grammar_file.specs.Laws.Drives.{drives_first, drives_on, drives_split, drives_derives, first_of_drives, drives_of_first}
 use Rattle.llp_tables.specs.Lookback.{IsStackAfter}
 use Rattle.llp_wide.specs.Wide.{wide_whole, IsWideStackAfter}
 use Rattle.llp_wide.specs.WideBehind.{last_behind, IsEnding, IsEntered}
@@ -84,7 +84,7 @@ module _ (g : Grammar) where
     u,
     derives_on g (wide_whole g) (word_form (s.x ++ z ∷ []) ++ s.after) (word_form (s.x ++ z ∷ []) ++ Nonterminal a ∷ u) s.ps s.qs
         (drives_derives g (s.x ++ z ∷ []) s.ps (wide_whole g) s.after s.drives)
-        (Rattle.grammar_file.proofs.Derives.derives_word g (s.x ++ z ∷ []) s.after s.qs (Nonterminal a ∷ u) (opens_derives s.qs s.after (Nonterminal a ∷ u) s.opens)),
+        (Rattle.grammar_file.specs.Laws.Derives.derives_word g (s.x ++ z ∷ []) s.after s.qs (Nonterminal a ∷ u) (opens_derives s.qs s.after (Nonterminal a ∷ u) s.opens)),
   )
 
   pub stands_of_entered : (z a : ℕ) → IsEntered g z a → (u : List Symbol) × Stands z (Nonterminal a ∷ u)

@@ -10,10 +10,10 @@ use Rattle.grammar_file.specs.Grammar.{Grammar, production, begin_mark, end_mark
 use Rattle.grammar_file.specs.Drive.{Rule, first_stack}
 use Rattle.grammar_file.specs.Marks.{AreMarksOf}
 use Rattle.grammar_file.specs.Spelling.{IsReduced}
-use Rattle.grammar_file.proofs.Words.{same_head, same_tail, same_nonterminal, terminal-nonterminal, nil-cons}
-use Rattle.ll1_sets.proofs.FollowMarks.{parts_of, symbol_at, rest_at}
+use Rattle.grammar_file.specs.Laws.Words.{same_head, same_tail, same_nonterminal, terminal-nonterminal, nil-cons}
+use Rattle.ll1_sets.specs.Laws.FollowMarks.{parts_of, symbol_at, rest_at}
 use Rattle.ll1_sets.specs.Marking.{all_vanish}
-use Rattle.ll1_sets.proofs.FormTests.{Nullable, and, both, either, or_left, or_right}
+use Rattle.ll1_sets.specs.Laws.FormTests.{Nullable, and, both, either, or_left, or_right}
 use Rattle.llp_wide.specs.declared.endings.LastMarks.{LastMarks}
 use Rattle.llp_wide.specs.declared.places.Entrance.{Entrance}
 use Rattle.llp_wide.specs.Added.{IsIn, Adds}

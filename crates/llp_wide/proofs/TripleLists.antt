@@ -22,9 +22,9 @@ use Rattle.ll1_sets.specs.Predict.{IsLl1, IsNotLeftRecursive}
 use Rattle.llp_tables.specs.Slots.{Slots, Empty, One, Two}
 use Rattle.llp_tables.specs.Tables.{Entry}
 use Rattle.llp_tables.specs.declared.cells.Members.{Members}
-use Rattle.ll1_sets.proofs.FormTests.{both, and}
-use Rattle.ll1_sets.proofs.LeftRecursion.{not_left_recursive}
-use Rattle.llp_tables.proofs.StackOrder.{before_not_itself}
+use Rattle.ll1_sets.specs.Laws.FormTests.{both, and}
+use Rattle.ll1_sets.specs.Laws.LeftRecursion.{not_left_recursive}
+use Rattle.llp_tables.specs.Laws.StackOrder.{before_not_itself}
 use Rattle.llp_wide.specs.Triples.{AreLayers, entry_at, IsNumberOf, ArePiecesFor, AddsOne, HasNumber, TellsTriple, AreTriples, AreTriplesUpTo}
 use Rattle.llp_wide.specs.Wide.{IsWideLookback, IsWideLlp, IsWideEntry, HasWideEntry}
 use Rattle.llp_wide.specs.WideConflicts.{TellWide, IsWideLlpOn}

@@ -6,8 +6,8 @@ use Rattle.grammar_file.specs.declared.symbols.Symbol.{Symbol}
 use Rattle.grammar_file.specs.declared.symbols.Symbol.TheVariants.{Terminal, Nonterminal}
 use Rattle.grammar_file.specs.Grammar.{Grammar, Production, production, end_mark, IsSymbol, IsWellFormed}
 use Rattle.grammar_file.specs.Derivation.{Derives, word_form}
-use Rattle.grammar_file.proofs.Derives.{behind_terminal, first_step, derives_nil}
-use Rattle.grammar_file.proofs.Words.{nil-cons}
+use Rattle.grammar_file.specs.Laws.Derives.{behind_terminal, first_step, derives_nil}
+use Rattle.grammar_file.specs.Laws.Words.{nil-cons}
 use Rattle.llp_wide.specs.Wide.{wide_whole}
 use Rattle.llp_wide.specs.WideBehind.{last_behind, any_before, IsEntered, IsEnteredBy, IsWidePlace, WideBehind, here, through, of_start, of_begin}
 

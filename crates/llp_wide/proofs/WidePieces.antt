@@ -3,7 +3,7 @@ use Rattle.std.proofs.Common.{◌≡◌, ℕ, List, [], ◌∷◌, ◌++◌, Opt
 use Rattle.grammar_file.specs.declared.symbols.Symbol.{Symbol}
 use Rattle.grammar_file.specs.Grammar.{Grammar, begin_mark, end_mark, whole}
 use Rattle.grammar_file.specs.Derivation.{FirstReaches}
-use Rattle.grammar_file.proofs.Drives.{first_of_drives, drives_of_first}
+use Rattle.grammar_file.specs.Laws.Drives.{first_of_drives, drives_of_first}
 use Rattle.llp_tables.specs.Tables.{Entry}
 use Rattle.glue_summary.specs.declared.behind.Behind.{Behind}
 use Rattle.glue_summary.specs.Pieces.{ArePieces, IsStackBehind, IsClosedBehind, at_begin, behind_next, behind_all}

@@ -5,13 +5,13 @@ use Rattle.grammar_file.specs.declared.symbols.Symbol.TheVariants.{Terminal, Non
 use Rattle.grammar_file.specs.Grammar.{Grammar, begin_mark, end_mark, whole}
 use Rattle.grammar_file.specs.Derivation.{Derives, word_form}
 use Rattle.grammar_file.specs.Drive.{Rule, Drives, first_stack}
-use Rattle.grammar_file.proofs.Words.{same_head, same_tail, nil-cons, word-cons}
-use Rattle.grammar_file.proofs.Derives.{derives_step, derives_terminal, behind_terminal, derives_nil}
+use Rattle.grammar_file.specs.Laws.Words.{same_head, same_tail, nil-cons, word-cons}
+use Rattle.grammar_file.specs.Laws.Derives.{derives_step, derives_terminal, behind_terminal, derives_nil}
 use Rattle.llp_tables.specs.Slots.{Slots, Empty, One, Two}
 use Rattle.llp_tables.specs.LeastMembers.{KeepsLeast}
 use Rattle.ll1_sets.specs.Behind.{BeginsAtLast}
 use Rattle.llp_tables.specs.Lookback.{IsLookback, IsLlp}
-use Rattle.ll1_sets.proofs.BehindRules.{parted, begins-cut, begins-more, one_end, no_beta}
+use Rattle.ll1_sets.specs.Laws.BehindRules.{parted, begins-cut, begins-more, one_end, no_beta}
 use Rattle.llp_wide.specs.Wide.{wide_whole, IsWideLookback, IsWideLlp}
 use Rattle.llp_wide.specs.WideBehind.{last_behind, IsEnding, IsEntered, IsWidePlace, WideBehind, here, through, of_start, of_begin}
 use Rattle.llp_wide.proofs.Stacks.{Opens, reads_opens, Stands, stands_first, stands_expand, stands_match, stands_after, stands_before, entered_of_stands, stands_of_entered, stands_ending, behind_mark, after_second}

@@ -7,17 +7,17 @@ use Rattle.grammar_file.specs.declared.symbols.Symbol.TheVariants.{Terminal, Non
 use Rattle.grammar_file.specs.Grammar.{Grammar, begin_mark, end_mark, IsWellFormed}
 use Rattle.grammar_file.specs.Drive.{first_stack}
 use Rattle.grammar_file.specs.Marks.{AreMarksOf}
-use Rattle.grammar_file.proofs.Words.{same_nonterminal, terminal-nonterminal}
+use Rattle.grammar_file.specs.Laws.Words.{same_nonterminal, terminal-nonterminal}
 use Rattle.ll1_sets.specs.Predict.{IsNullable}
 use Rattle.llp_tables.specs.Cells.{IsBefore, IsCovered}
 use Rattle.ll1_sets.specs.Behind.{BeginsAtLast}
 use Rattle.llp_tables.specs.Slots.{Slots, Empty, Holds, AreInOrder, covers, add, room}
-use Rattle.llp_tables.proofs.Filling.{covers_is, covers_more, add_holds, add_ordered, add_room, up_to, keeps_least}
-use Rattle.llp_tables.proofs.Forcing.{stop_begins, stop_of}
-use Rattle.ll1_sets.proofs.FormTests.{Nullable, First, vanishing, vanishes_exactly}
-use Rattle.ll1_sets.proofs.BehindRules.{one_end}
-use Rattle.llp_tables.proofs.StackOrder.{before_not_itself, not_before_front}
-use Rattle.llp_tables.proofs.TwoLeast.{covered_pass}
+use Rattle.llp_tables.specs.Laws.Filling.{covers_is, covers_more, add_holds, add_ordered, add_room, up_to, keeps_least}
+use Rattle.llp_tables.specs.Laws.Forcing.{stop_begins, stop_of}
+use Rattle.ll1_sets.specs.Laws.FormTests.{Nullable, First, vanishing, vanishes_exactly}
+use Rattle.ll1_sets.specs.Laws.BehindRules.{one_end}
+use Rattle.llp_tables.specs.Laws.StackOrder.{before_not_itself, not_before_front}
+use Rattle.llp_tables.specs.Laws.TwoLeast.{covered_pass}
 use Rattle.llp_wide.specs.Added.{IsIn, Adds}
 use Rattle.llp_wide.specs.Claims.{Claim, IsStopIn, IsFirstClaim, IsPassOf, AreClaimsCovered, IsLeastClaim, AreLeastWide}
 use Rattle.llp_wide.specs.Places.{Spot, spots_behind, IsKept, IsSoundSpot, own, gathers, shared, AreSpots}

@@ -45,4 +45,5 @@ pub record HasAdded (old new : List Members) (claim : Claim) : Type 0 where
   pub cells : (terminals nonterminals : ℕ) → AreClasses terminals nonterminals old → AreClasses terminals nonterminals new
   pub at : cells_at new claim.before claim.symbol ≡ add claim.stack (cells_at old claim.before claim.symbol)
   pub there : (z : ℕ) (s : Symbol) → ((z ≡ claim.before) × (s ≡ claim.symbol)) ⊎ (cells_at new z s ≡ cells_at old z s)
-  pub room_is : (terminals nonterminals : ℕ) → room_in terminals nonterminals new + room (cells_at old claim.before claim.symbol) ≡ room_in terminals nonterminals old + room (cells_at new claim.before claim.symbol)
+  pub room_is : (terminals nonterminals : ℕ) → room_in terminals nonterminals new + room (cells_at old claim.before claim.symbol)
+      ≡ room_in terminals nonterminals old + room (cells_at new claim.before claim.symbol)

@@ -55,9 +55,11 @@ spots_behind count groups before (Nonterminal a) = spots_of count groups before 
 abbrev pub IsKept : Grammar → List (List Spot) → Spot → Type 0
 IsKept g groups spot = IsIn (spots_of (length g.nonterminals) groups spot.owner.before spot.owner.nonterminal) spot
 
--- A place of a symbol behind what is matched last before its owner; or the owner itself, where any terminal is matched last; or a place that is the same whichever terminal is matched last before its owner
+-- A place of a symbol behind what is matched last before its owner; or the owner itself, where any terminal is matched last; or a place that is the
+-- same whichever terminal is matched last before its owner
 pub data IsSoundSpot (g : Grammar) : Spot → Type 0 where
-  own : (z0 owner z : ℕ) (s : Symbol) (after : List Symbol) → IsWidePlace g z0 owner z s after → IsSoundSpot g (record { before = z; symbol = s; owner = record { before = z0; nonterminal = owner }; after = after })
+  own : (z0 owner z : ℕ) (s : Symbol) (after : List Symbol) → IsWidePlace g z0 owner z s after
+      → IsSoundSpot g (record { before = z; symbol = s; owner = record { before = z0; nonterminal = owner }; after = after })
   gathers : (z0 owner : ℕ) → IsEntered g z0 owner → IsSoundSpot g (record { before = any_before g; symbol = Nonterminal owner; owner = record { before = z0; nonterminal = owner }; after = [] })
   shared : (z0 owner z : ℕ) (s : Symbol) (after : List Symbol) → IsEntered g z0 owner → ((y : ℕ) → IsEntered g y owner → IsWidePlace g y owner z s after)
       → IsSoundSpot g (record { before = z; symbol = s; owner = record { before = any_before g; nonterminal = owner }; after = after })
@@ -67,4 +69,5 @@ pub record AreSpots (g : Grammar) (groups : List (List Spot)) : Type 0 where
   pub sound : (n : ℕ) (spot : Spot) → IsIn (slice_index_or groups n []) spot → IsSoundSpot g spot
   pub complete : (z0 owner z : ℕ) (s : Symbol) (after : List Symbol) → IsWidePlace g z0 owner z s after
       → IsKept g groups (record { before = z; symbol = s; owner = record { before = z0; nonterminal = owner }; after = after })
-      ⊎ (IsKept g groups (record { before = z; symbol = s; owner = record { before = any_before g; nonterminal = owner }; after = after }) × IsKept g groups (record { before = any_before g; symbol = Nonterminal owner; owner = record { before = z0; nonterminal = owner }; after = [] }))
+      ⊎ (IsKept g groups (record { before = z; symbol = s; owner = record { before = any_before g; nonterminal = owner }; after = after })
+          × IsKept g groups (record { before = any_before g; symbol = Nonterminal owner; owner = record { before = z0; nonterminal = owner }; after = [] }))

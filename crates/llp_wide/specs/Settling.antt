@@ -17,4 +17,5 @@ pub record IsWideSettling (g : Grammar) (nullable first : List Bool) (b : ℕ) (
   pub waits : (x : Claim) → IsIn claims x → BehindAny g x.before x.symbol b x.stack
   pub ahead : (x : Claim) → IsIn claims x → (covers (cell x.before x.symbol) x.stack ≡ true) ⊎ (IsBefore x.stack last → ⊥)
   pub firsts : (x : Claim) → IsFirstClaim nullable first b g groups x → IsIn claims x
-  pub passes : (z : ℕ) (s : Symbol) (t : List Symbol) → Holds (cell z s) t → (x : Claim) → IsPassOf nullable (record { before = z; symbol = s; stack = t }) (spots_behind (length g.nonterminals) groups z s) x → IsIn claims x
+  pub passes : (z : ℕ) (s : Symbol) (t : List Symbol) → Holds (cell z s) t → (x : Claim)
+      → IsPassOf nullable (record { before = z; symbol = s; stack = t }) (spots_behind (length g.nonterminals) groups z s) x → IsIn claims x

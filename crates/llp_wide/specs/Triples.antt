@@ -48,7 +48,8 @@ pub record TellsTriple (g : Grammar) (z a b start : ℕ) (old new : List Entry) 
 pub record AreTriples (g : Grammar) (numbers : List (Option ℕ)) (pieces : List Entry) : Type 0 where
   pub numbers_are : AllByRecursion (IsNumberOf (length pieces)) numbers
   pub few : length pieces ≤ length numbers
-  pub tells : (z a b : ℕ) → z < width_of g → a < width_of g → triple_place (width_of g) z a b < length numbers → HasWideEntry g z a b (slice_index_or (map (entry_at pieces) numbers) (triple_place (width_of g) z a b) None)
+  pub tells : (z a b : ℕ) → z < width_of g → a < width_of g → triple_place (width_of g) z a b < length numbers
+      → HasWideEntry g z a b (slice_index_or (map (entry_at pieces) numbers) (triple_place (width_of g) z a b) None)
 
 -- the first n of them, where the pieces from `start` on are for b
 pub record AreTriplesUpTo (g : Grammar) (b start n : ℕ) (numbers : List (Option ℕ)) (pieces : List Entry) : Type 0 where

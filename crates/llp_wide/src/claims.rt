@@ -279,7 +279,8 @@ fn lesser<'a>(
     best: Option<&'a Waiting>,
     next: &'a Waiting,
 ) -> Option<&'a Waiting>
-    ensures { (xs : List AnyClaim) → MatchOption best.entry (AreClaimsCovered xs (cells_at classes.now)) (λ p. IsLeastClaim xs (cells_at classes.now) p.now) → MatchOption result (AreClaimsCovered (xs ++ next.now ∷ []) (cells_at classes.now)) (λ p. IsLeastClaim (xs ++ next.now ∷ []) (cells_at classes.now) p.now) }
+    ensures { (xs : List AnyClaim) → MatchOption best.entry (AreClaimsCovered xs (cells_at classes.now)) (λ p. IsLeastClaim xs (cells_at classes.now) p.now)
+        → MatchOption result (AreClaimsCovered (xs ++ next.now ∷ []) (cells_at classes.now)) (λ p. IsLeastClaim (xs ++ next.now ∷ []) (cells_at classes.now) p.now) }
 {
     match best {
         None => {

@@ -61,7 +61,8 @@ fn conflict_behind(
     z: u16,
     b: u16,
 ) -> Result<Option<WideConflict>, AllocError>
-    ensures { IfOk result (λ o. MatchOption o ((a : ℕ) → a < count → HasNoTwo (cells_at classes.now z (AnyTerminal a))) (λ k. (k.z ≡ z) × (k.b ≡ b) × IsLeastTwoIn classes.now z k.a k.first k.second)) }
+    ensures { IfOk result (λ o. MatchOption o ((a : ℕ) → a < count → HasNoTwo (cells_at classes.now z (AnyTerminal a)))
+        (λ k. (k.z ≡ z) × (k.b ≡ b) × IsLeastTwoIn classes.now z k.a k.first k.second)) }
 {
     if is_closed(classes, z) {
         return Ok(None);

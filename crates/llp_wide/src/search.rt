@@ -145,11 +145,15 @@ fn take(
     requires first { AreMarksOf ground.now.grammar.now (λ a. IsFirst ground.now.grammar.now (AnyNonterminal a ∷ []) ground.now.b) ground.now.first.now }
     requires places { AreSpots ground.now.grammar.now ground.now.groups.now }
     requires classes { AreClasses (length ground.now.grammar.now.terminals + 3) (length ground.now.grammar.now.nonterminals) classes.old.items }
-    requires settling { (last : List AnySymbol) × IsWideSettling ground.now.grammar.now ground.now.nullable.now ground.now.first.now ground.now.b ground.now.groups.now last (cells_at classes.old.items) waiting.old.items }
+    requires settling { (last : List AnySymbol)
+        × IsWideSettling ground.now.grammar.now ground.now.nullable.now ground.now.first.now ground.now.b ground.now.groups.now last
+        (cells_at classes.old.items) waiting.old.items }
     requires least { IsLeastClaim waiting.old.items (cells_at classes.old.items) claim }
     ensures classes { OnOk result (AreClasses (length ground.now.grammar.now.terminals + 3) (length ground.now.grammar.now.nonterminals) classes.new.items) }
-    ensures settling { OnOk result (IsWideSettling ground.now.grammar.now ground.now.nullable.now ground.now.first.now ground.now.b ground.now.groups.now claim.stack (cells_at classes.new.items) waiting.new.items) }
-    ensures room { OnOk result (room_in (length ground.now.grammar.now.terminals + 3) (length ground.now.grammar.now.nonterminals) classes.new.items < room_in (length ground.now.grammar.now.terminals + 3) (length ground.now.grammar.now.nonterminals) classes.old.items) }
+    ensures settling { OnOk result (IsWideSettling ground.now.grammar.now ground.now.nullable.now ground.now.first.now ground.now.b ground.now.groups.now claim.stack
+        (cells_at classes.new.items) waiting.new.items) }
+    ensures room { OnOk result (room_in (length ground.now.grammar.now.terminals + 3) (length ground.now.grammar.now.nonterminals) classes.new.items
+        < room_in (length ground.now.grammar.now.terminals + 3) (length ground.now.grammar.now.nonterminals) classes.old.items) }
 {
     let count = ground.grammar.nonterminal_count();
     pass_on(
@@ -190,8 +194,10 @@ fn take_at(
     requires classes { AreClasses (length ground.now.grammar.now.terminals + 3) (length ground.now.grammar.now.nonterminals) classes.old.items }
     requires settling { IsWideSettling ground.now.grammar.now ground.now.nullable.now ground.now.first.now ground.now.b ground.now.groups.now stack.now (cells_at classes.old.items) waiting.old.items }
     ensures classes { OnOk result (AreClasses (length ground.now.grammar.now.terminals + 3) (length ground.now.grammar.now.nonterminals) classes.new.items) }
-    ensures settling { OnOk result (IsWideSettling ground.now.grammar.now ground.now.nullable.now ground.now.first.now ground.now.b ground.now.groups.now stack.now (cells_at classes.new.items) waiting.new.items) }
-    ensures room { OnOk result (room_in (length ground.now.grammar.now.terminals + 3) (length ground.now.grammar.now.nonterminals) classes.new.items ≤ room_in (length ground.now.grammar.now.terminals + 3) (length ground.now.grammar.now.nonterminals) classes.old.items) }
+    ensures settling { OnOk result (IsWideSettling ground.now.grammar.now ground.now.nullable.now ground.now.first.now ground.now.b ground.now.groups.now stack.now
+        (cells_at classes.new.items) waiting.new.items) }
+    ensures room { OnOk result (room_in (length ground.now.grammar.now.terminals + 3) (length ground.now.grammar.now.nonterminals) classes.new.items
+        ≤ room_in (length ground.now.grammar.now.terminals + 3) (length ground.now.grammar.now.nonterminals) classes.old.items) }
 {
     let Some(next) = waiting.get(i) else {
         return Ok(());
@@ -218,8 +224,10 @@ fn take_same(
     requires classes { AreClasses (length ground.now.grammar.now.terminals + 3) (length ground.now.grammar.now.nonterminals) classes.old.items }
     requires settling { IsWideSettling ground.now.grammar.now ground.now.nullable.now ground.now.first.now ground.now.b ground.now.groups.now stack.now (cells_at classes.old.items) waiting.old.items }
     ensures classes { OnOk result (AreClasses (length ground.now.grammar.now.terminals + 3) (length ground.now.grammar.now.nonterminals) classes.new.items) }
-    ensures settling { OnOk result (IsWideSettling ground.now.grammar.now ground.now.nullable.now ground.now.first.now ground.now.b ground.now.groups.now stack.now (cells_at classes.new.items) waiting.new.items) }
-    ensures room { OnOk result (room_in (length ground.now.grammar.now.terminals + 3) (length ground.now.grammar.now.nonterminals) classes.new.items ≤ room_in (length ground.now.grammar.now.terminals + 3) (length ground.now.grammar.now.nonterminals) classes.old.items) }
+    ensures settling { OnOk result (IsWideSettling ground.now.grammar.now ground.now.nullable.now ground.now.first.now ground.now.b ground.now.groups.now stack.now
+        (cells_at classes.new.items) waiting.new.items) }
+    ensures room { OnOk result (room_in (length ground.now.grammar.now.terminals + 3) (length ground.now.grammar.now.nonterminals) classes.new.items
+        ≤ room_in (length ground.now.grammar.now.terminals + 3) (length ground.now.grammar.now.nonterminals) classes.old.items) }
 {
     for i in 0..waiting.len() {
         take_at(alloc, ground, stack, i, classes, waiting)?;

@@ -87,7 +87,8 @@ impl WideTables {
     /// What the terminals tell where z and then a are matched last and b comes next. The begin mark is terminal 0, and stands twice
     /// before a text; the end mark is the last one. There is no entry where b never comes next behind z and a.
     pub fn entry(&self, z: u16, a: u16, b: u16) -> Option<Entry<'_>>
-        ensures { MatchOption result (wide_entry_of self.now z a b ≡ None) (λ e. wide_entry_of self.now z a b ≡ Some (record { closes = e.closes.now; opens = e.opens.now; productions = e.productions.now })) }
+        ensures { MatchOption result (wide_entry_of self.now z a b ≡ None)
+            (λ e. wide_entry_of self.now z a b ≡ Some (record { closes = e.closes.now; opens = e.opens.now; productions = e.productions.now })) }
     {
         if self.width <= z || self.width <= a || self.width <= b {
             return None;

@@ -7,9 +7,9 @@ use Rattle.std.proofs.lemmas.List.FromFn.{fill_by_all}
 use Rattle.std.proofs.lemmas.Option.{slice_get-get_or}
 use Rattle.chunk_seats.specs.Chunks.{chunk_of}
 use Rattle.par_passes.specs.Passes.{GaveAt, marked}
-use Rattle.par_passes.proofs.Calling.{marked_by}
-use Rattle.par_passes.proofs.Giving.{all_numbers}
-use Rattle.par_passes.proofs.Marking.{range_next}
+use Rattle.par_passes.specs.Laws.Calling.{marked_by}
+use Rattle.par_passes.specs.Laws.Giving.{all_numbers}
+use Rattle.par_passes.specs.Laws.Marking.{range_next}
 
 -- one number more
 pub choose_more : (h : ℕ → Bool) (a n : ℕ) (old out next : List ℕ) (b : Bool) → out ≡ old ++ filter h (range_with_len a n) → b ≡ h (a + n) → next ≡ out ++ cond b ((a + n) ∷ []) [] → next ≡ old ++ filter h (range_with_len a (n + 1))

@@ -7,9 +7,9 @@ use Rattle.list_parts.specs.declared.part.Part.{Part}
 use Rattle.list_parts.specs.Parts.{part_items, part_start, Follows, Chain}
 use Rattle.par_passes.specs.Passes.{Gives}
 use Rattle.par_passes.specs.Dealt.{InPlace, Joins}
-use Rattle.par_passes.proofs.Giving.{gives_none, gives_before, gives_next}
-use Rattle.par_passes.proofs.Marking.{range_next}
-use Rattle.list_parts.proofs.Chains.{total, chain_at, chain_first, total_next, total_most, get_below}
+use Rattle.par_passes.specs.Laws.Giving.{gives_none, gives_before, gives_next}
+use Rattle.par_passes.specs.Laws.Marking.{range_next}
+use Rattle.list_parts.specs.Laws.Chains.{total, chain_at, chain_first, total_next, total_most, get_below}
 
 -- where each part that came back lies where the part that was dealt lay
 module _ {U : Type 0} (s : ℕ) (parts : List (Part U)) (good : ℕ → Part U → Type 0) where

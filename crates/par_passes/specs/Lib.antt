@@ -2,3 +2,4 @@ pub mod Crews
 pub mod Passes
 pub mod Least
 pub mod Dealt
+pub mod Laws

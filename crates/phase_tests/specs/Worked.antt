@@ -18,7 +18,8 @@ counting =
       name = codes "f";
       params = record { at = 4; name = codes "a"; type = Int } ∷ [];
       type = Int;
-      body = block 10 (stmt (while 11 (binary 13 Less (name 12 (codes "a")) (num 14 2)) (block 15 (stmt (eval (assign 17 (name 16 (codes "a")) (binary 19 Plus (name 18 (codes "a")) (num 20 1)))) no_stmts)))
+      body = block 10 (stmt (while 11 (binary 13 Less (name 12 (codes "a")) (num 14 2))
+          (block 15 (stmt (eval (assign 17 (name 16 (codes "a")) (binary 19 Plus (name 18 (codes "a")) (num 20 1)))) no_stmts)))
           (stmt (return 23 (name 24 (codes "a"))) no_stmts));
     }
     ∷ record {
@@ -26,7 +27,8 @@ counting =
       name = codes "main";
       params = [];
       type = Int;
-      body = block 33 (stmt (if_else 34 (binary 39 Equal (call 35 (codes "f") (arg (num 37 1) no_args)) (num 40 2)) (block 41 (stmt (return 42 (num 43 1)) no_stmts)) (block 47 (stmt (return 48 (num 49 0)) no_stmts))) no_stmts);
+      body = block 33 (stmt (if_else 34 (binary 39 Equal (call 35 (codes "f") (arg (num 37 1) no_args)) (num 40 2)) (block 41 (stmt (return 42 (num 43 1)) no_stmts))
+          (block 47 (stmt (return 48 (num 49 0)) no_stmts))) no_stmts);
     }
     ∷ []
 

@@ -13,8 +13,8 @@ use Rattle.row_laws.specs.Shifts.{is_call}
 use Rattle.row_laws.specs.Along.{first_of, kind_by}
 use Rattle.row_laws.specs.Places.{production_at}
 use Rattle.row_laws.specs.Placed.{reads_at, reads_from}
-use Rattle.row_laws.proofs.OwnedPlaces.{first_by_place}
-use Rattle.row_laws.proofs.ReadTerminals.{terminals_read}
+use Rattle.row_laws.specs.Laws.OwnedPlaces.{first_by_place}
+use Rattle.row_laws.specs.Laws.ReadTerminals.{terminals_read}
 use Rattle.row_walk.specs.Walk.{Made, made_by}
 use Rattle.row_walk.specs.Marks.{mark_of, type_ahead}
 use Rattle.row_columns.specs.TokensOf.{no_token}

@@ -15,7 +15,7 @@ use Rattle.row_laws.specs.Marks.{Mark}
 use Rattle.row_laws.specs.Faults.{number_or, is_name_kind, if_param}
 use Rattle.row_laws.specs.Climbed.{FitFrom, lows_from, mark_at, settled_at}
 use Rattle.row_laws.specs.Faulted.{size_before_at, name_before_at, params_before_at, params_within, fault_by, fault_keys, faults_at, key_of}
-use Rattle.row_laws.proofs.Params.{params_nine}
+use Rattle.row_laws.specs.Laws.Params.{params_nine}
 use Rattle.row_columns.specs.RowFaults.{fault_at, fault_word, key_if, kind_at, least_in, name_before, number_in, params_before, size_at, size_before}
 use Rattle.row_columns.specs.Stretches.{AreRowColumns, AreSmall, IsSmall}
 use Rattle.row_columns.proofs.Wholes.{indexed}

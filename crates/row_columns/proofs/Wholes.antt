@@ -14,7 +14,7 @@ use Rattle.row_laws.specs.Evals.{is_eval}
 use Rattle.row_laws.specs.Owned.{owned}
 use Rattle.row_laws.specs.Places.{production_at}
 use Rattle.row_laws.specs.Climbed.{lows_from, mark_at, no_mark, settled_at}
-use Rattle.row_laws.proofs.Placed.{same_list}
+use Rattle.row_laws.specs.Laws.Placed.{same_list}
 use Rattle.row_walk.specs.Walk.{Made, made_by}
 use Rattle.row_walk.specs.Marks.{is_value, mark_of, walk_marks}
 use Rattle.row_columns.specs.TokensOf.{no_token}

@@ -16,7 +16,7 @@ use Rattle.row_laws.specs.Faulted.{fault_keys, Tells}
 use Rattle.row_laws.proofs.Builds.{program_rows}
 use Rattle.row_laws.proofs.Climbs.{rows_are}
 use Rattle.row_laws.proofs.Shapes.{faults_are}
-use Rattle.row_laws.proofs.Climbed.{node_fits, rows_by_lists}
+use Rattle.row_laws.specs.Laws.Climbed.{node_fits, rows_by_lists}
 use Rattle.row_laws.proofs.Faulted.{least_tells}
 
 pub marks_emitted : (r : Tree Prog) → node_marks (program_node (ast r)) ≡ (part r).rows 0 0 false ++ mark ProgramKind None (length ((part r).rows 0 0 false) + 1) ∷ []

@@ -5,7 +5,7 @@ use Rattle.std.proofs.lemmas.Bool.{cases_lt}
 use Rattle.std.proofs.lemmas.List.{get_or_past}
 use Rattle.std.proofs.lemmas.List.FromFn.{length-map-range_with_len, get_or-map-range_with_len}
 use Rattle.word_monoid.specs.Folds.{prefixes}
-use Rattle.word_monoid.proofs.Folds.{length-prefixes}
+use Rattle.word_monoid.specs.Laws.Folds.{length-prefixes}
 use Rattle.word_monoid.specs.Instances.{count}
 use Rattle.rv_select.proofs.Laid.{prefix_first, prefix_step}
 use Rattle.rv_select.specs.Columns.{ProgramColumns}

@@ -5,7 +5,7 @@ use Rattle.std.specs.List.{range_with_len}
 use Rattle.std.proofs.lemmas.List.{map-append}
 use Rattle.std.proofs.lemmas.List.FromFn.{length-range_with_len}
 use Rattle.chunk_seats.specs.Chunks.{chunk_count}
-use Rattle.par_passes.proofs.Together.{together}
+use Rattle.par_passes.specs.Laws.Together.{together}
 use Rattle.rv_isa.specs.Encoding.{word}
 use Rattle.rv_code.specs.Code.{words}
 use Rattle.source_meaning.specs.Ast.{Program}

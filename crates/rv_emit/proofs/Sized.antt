@@ -7,19 +7,19 @@ use Rattle.std.proofs.lemmas.List.FromFn.{length-map-range_with_len, get_or-map-
 use Rattle.source_meaning.specs.Ast.{Program}
 use Rattle.source_meaning.specs.Rows.{post}
 use Rattle.row_rules.specs.Alignment.{IsNamedProgram}
-use Rattle.row_rules.proofs.Shaped.{program_named}
+use Rattle.row_rules.specs.Laws.Shaped.{program_named}
 use Rattle.rv_code.specs.Code.{words}
 use Rattle.code_rules.specs.Pieces.{Piece, head, pieces, sizes, places, firsts}
 use Rattle.code_rules.specs.PieceRules.{IsWholeProgram}
 use Rattle.code_rules.specs.RowPieces.{Known, Spots, size_by}
 use Rattle.code_rules.specs.RowTables.{IsKnown}
-use Rattle.code_rules.proofs.ByRows.{size_at}
-use Rattle.code_rules.proofs.Canonical.{pieces_fit, some_row}
-use Rattle.code_rules.proofs.LastRow.{last_none}
-use Rattle.code_rules.proofs.Sized.{piece_sized}
-use Rattle.code_rules.proofs.Small.{FewParams, params_few, start_few, sizes_small}
-use Rattle.code_rules.proofs.Totals.{head_long, words_long}
-use Rattle.code_rules.proofs.Whole.{program_whole}
+use Rattle.code_rules.specs.Laws.ByRows.{size_at}
+use Rattle.code_rules.specs.Laws.Canonical.{pieces_fit, some_row}
+use Rattle.code_rules.specs.Laws.LastRow.{last_none}
+use Rattle.code_rules.specs.Laws.Sized.{piece_sized}
+use Rattle.code_rules.specs.Laws.Small.{FewParams, params_few, start_few, sizes_small}
+use Rattle.code_rules.specs.Laws.Totals.{head_long, words_long}
+use Rattle.code_rules.specs.Laws.Whole.{program_whole}
 use Rattle.rv_select.specs.Columns.{ProgramColumns}
 use Rattle.rv_select.specs.Columns.{known_in}
 use Rattle.rv_select.specs.Knowns.{known_of}

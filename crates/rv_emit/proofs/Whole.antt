@@ -15,15 +15,15 @@ use Rattle.ast_rows.specs.NodeRows.{low_at, lows_of, parent_numbers}
 use Rattle.row_rules.specs.Alignment.{IsNamedProgram}
 use Rattle.row_rules.specs.Visible.{no_row, site_at}
 use Rattle.row_rules.specs.Steps.{is_assign, kind_at}
-use Rattle.row_rules.proofs.Shaped.{program_named}
+use Rattle.row_rules.specs.Laws.Shaped.{program_named}
 use Rattle.typing_rules.specs.Columns.{first_of, IsFirstChild}
 use Rattle.typing_rules.proofs.Firsts.{first_found, first_is}
 use Rattle.typing_rules.proofs.Lefts.{assignment_begins}
 use Rattle.code_rules.specs.ByNames.{number_by as number_of_row, number_meant, row_by}
 use Rattle.code_rules.specs.RowTables.{function_number, frame_in, NumberOf}
-use Rattle.code_rules.proofs.Meanings.{numbers_meant}
-use Rattle.code_rules.proofs.ByRows.{sites_many}
-use Rattle.code_rules.proofs.Whole.{program_whole}
+use Rattle.code_rules.specs.Laws.Meanings.{numbers_meant}
+use Rattle.code_rules.specs.Laws.ByRows.{sites_many}
+use Rattle.code_rules.specs.Laws.Whole.{program_whole}
 use Rattle.rv_select.specs.declared.known.Frame.{Frame}
 use Rattle.rv_select.specs.Knowns.{frame_of}
 use Rattle.rv_select.specs.Columns.{ProgramColumns}

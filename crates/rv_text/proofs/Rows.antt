@@ -7,7 +7,7 @@ use Rattle.rv_isa.specs.declared.instructions.Instr.{Instr}
 use Rattle.rv_isa.specs.declared.instructions.Instr.TheVariants.{Lui, Auipc, Jal, Jalr, Beq, Bne, Blt, Bge, Bltu, Bgeu, Lb, Lh, Lw, Lbu, Lhu, Sb, Sh, Sw, Addi, Slti, Sltiu, Xori, Ori, Andi, Slli, Srli, Srai, Add, Sll, Slt, Sltu, Xor, Srl, Or, And, Sub, Sra, Mul, Mulh, Mulhsu, Mulhu, Div, Divu, Rem, Remu, Fence, Ecall, Ebreak}
 use Rattle.rv_isa.specs.Word.{extended}
 use Rattle.rv_isa.specs.Encoding.{word, decoded, InRange, IsSigned, IsImmediate, IsBranch, AreThree}
-use Rattle.rv_isa.proofs.Again.{word-decoded, word-range}
+use Rattle.rv_isa.specs.Laws.Again.{word-decoded, word-range}
 use Rattle.rv_text.specs.declared.operands.Operand.{Operand}
 use Rattle.rv_text.specs.declared.operands.Operand.TheVariants.{Register, Number, Address, Word}
 use Rattle.rv_text.specs.Written.{Written, written, written_or_raw, raw, three, two_and_number, one_and_number, one_and_address}

@@ -3,7 +3,7 @@ use Rattle.std.proofs.Common.{◌≡◌, ℕ, suc, ◌+◌, ◌≤◌, List, [],
 use Rattle.std.proofs.lemmas.List.{append-nil}
 use Rattle.word_monoid.specs.Monoid.{Ops, IsItem, IsMonoid}
 use Rattle.word_monoid.specs.Folds.{prefix_of}
-use Rattle.word_monoid.proofs.Folds.{all_at, prefix_item, prefix_next}
+use Rattle.word_monoid.specs.Laws.Folds.{all_at, prefix_item, prefix_next}
 use Rattle.scan_lookback.specs.Views.{loading, looking}
 use Rattle.scan_lookback.specs.LookSteps.{LastLoaded}
 use Rattle.scan_lookback.specs.Held.{Held, held}

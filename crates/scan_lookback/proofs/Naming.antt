@@ -6,10 +6,10 @@ use Rattle.std.proofs.lemmas.Option.{slice_get-map}
 use Rattle.std.specs.Prelude.{option_map}
 use Rattle.word_monoid.specs.Monoid.{Ops, IsItem, IsMonoid}
 use Rattle.word_monoid.specs.Folds.{prefixes_from}
-use Rattle.word_monoid.proofs.Folds.{all_at}
+use Rattle.word_monoid.specs.Laws.Folds.{all_at}
 use Rattle.scan_lookback.specs.Named.{Names}
 use Rattle.scan_lookback.specs.Cuts.{Scans, sums_of}
-use Rattle.scan_lookback.proofs.Cutting.{sums_are_items}
+use Rattle.scan_lookback.specs.Laws.Cutting.{sums_are_items}
 
 module _ {T I : Type 0} (ops : Ops I) (of : T → I) (items : List T) (ok : All (λ x. IsItem ops (of x)) items) (size : ℕ) (pos : 0 < size) where
   abbrev lifted : List I

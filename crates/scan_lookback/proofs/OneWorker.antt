@@ -5,9 +5,9 @@ use Rattle.std.proofs.lemmas.List.FromFn.{map-range_with_len_more}
 use Rattle.chunk_seats.specs.Chunks.{chunk_of, chunk_count}
 use Rattle.word_monoid.specs.Monoid.{Ops}
 use Rattle.word_monoid.specs.Folds.{fold_of, prefix_of, prefixes, prefixes_from}
-use Rattle.word_monoid.proofs.Folds.{range-append}
+use Rattle.word_monoid.specs.Laws.Folds.{range-append}
 use Rattle.scan_lookback.specs.Cuts.{Lifts, Scans, running}
-use Rattle.scan_lookback.proofs.Cutting.{chunks_all, fold_on, length-chunk, lifts_chunk, runs_from}
+use Rattle.scan_lookback.specs.Laws.Cutting.{chunks_all, fold_on, length-chunk, lifts_chunk, runs_from}
 
 pub next_chunk : (c size : ℕ) → c * size + size ≡ (c + 1) * size
 next_chunk c size = sym (suc-mul c size) ∙ ap (λ (k : ℕ). k * size) (sym (add-one c))

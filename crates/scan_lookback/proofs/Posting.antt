@@ -8,7 +8,7 @@ use lib.ListN.{get_elem?}
 use Rattle.atomic_table.specs.Table.{State, step, keeps, Allows, Splits, Joins, Seen, Final}
 use Rattle.atomic_table.proofs.Lists.{at_set}
 use Rattle.chunk_seats.specs.Tallies.{total, times, Every}
-use Rattle.chunk_seats.proofs.Totals.{total_set, total_snoc, total_part, total_alone, every_set, every_snoc, one_same, one_other, times-append, times_snoc}
+use Rattle.chunk_seats.specs.Laws.Totals.{total_set, total_snoc, total_part, total_alone, every_set, every_snoc, one_same, one_other, times-append, times_snoc}
 use Rattle.scan_lookback.specs.declared.views.LookView.{LookView}
 use Rattle.std.specs.Prelude.{All}
 use Rattle.std.proofs.lemmas.List.Elements.{All-append, All-push}

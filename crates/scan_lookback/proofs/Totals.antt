@@ -6,9 +6,9 @@ use Rattle.std.proofs.lemmas.List.FromFn.{length-map-range_with_len, get_or-map-
 use Rattle.chunk_seats.specs.Chunks.{chunk_count}
 use Rattle.word_monoid.specs.Monoid.{Ops, IsItem, IsMonoid}
 use Rattle.word_monoid.specs.Folds.{fold_of, prefix_of, prefixes_from, prefixes}
-use Rattle.word_monoid.proofs.Folds.{all_at, prefix_item, prefix_next}
+use Rattle.word_monoid.specs.Laws.Folds.{all_at, prefix_item, prefix_next}
 use Rattle.scan_lookback.specs.Cuts.{Scans}
-use Rattle.scan_lookback.proofs.Cutting.{count_is}
+use Rattle.scan_lookback.specs.Laws.Cutting.{count_is}
 use Rattle.scan_lookback.proofs.Working.{StartsAt}
 
 module _ {T I : Type 0} (ops : Ops I) (laws : IsMonoid ops) (post : T → I → Type 0) (size : ℕ) (items : List T) (lifted sums : List I) (scans : Scans ops post size items lifted sums) where

@@ -8,7 +8,7 @@ use native.Mathlib.Decide.{ℕ_discrete}
 use Rattle.chunk_seats.specs.Tallies.{times, one}
 use Rattle.chunk_seats.specs.declared.views.ClaimView.{ClaimView}
 use Rattle.chunk_seats.specs.Claims.{claiming, finishing}
-use Rattle.chunk_seats.proofs.Totals.{times_snoc, one_same, one_other, one_le}
+use Rattle.chunk_seats.specs.Laws.Totals.{times_snoc, one_same, one_other, one_le}
 use Rattle.scan_lookback.specs.declared.views.LookView.{LookView}
 use Rattle.std.specs.Prelude.{All, IfOk}
 use Rattle.std.proofs.lemmas.List.Elements.{All-push}

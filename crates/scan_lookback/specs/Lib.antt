@@ -9,3 +9,4 @@ pub mod Cuts
 pub mod Worked
 pub mod Made
 pub mod Placed
+pub mod Laws

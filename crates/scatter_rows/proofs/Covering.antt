@@ -6,7 +6,7 @@ use Rattle.std.proofs.lemmas.Grind.{div_ceil_times}
 use mathlib.Core.Logic.{dite}
 use native.Mathlib.Decide.{dec_le, ℕ_discrete}
 use Rattle.chunk_seats.specs.Tallies.{one, times, OnceBelow}
-use Rattle.chunk_seats.proofs.Totals.{times-append, times_snoc, one_same, one_other}
+use Rattle.chunk_seats.specs.Laws.Totals.{times-append, times_snoc, one_same, one_other}
 use Rattle.scatter_rows.specs.Worked.{IsCut, Covers}
 
 pub cut_of : (count size chunks : ℕ) → 0 < size → chunks ≡ count / size + min 1 (count % size) → IsCut count size chunks

@@ -8,7 +8,7 @@ use lib.ListN.{get_elem?}
 use Rattle.atomic_table.specs.Table.{step, keeps, opening, Allows, Splits, Joins, Seen, Final}
 use Rattle.atomic_table.proofs.Lists.{at_set}
 use Rattle.chunk_seats.specs.Tallies.{times, Every}
-use Rattle.chunk_seats.proofs.Totals.{total_set, total_snoc, every_set, every_snoc, one_other, times-append, times_snoc, at_get}
+use Rattle.chunk_seats.specs.Laws.Totals.{total_set, total_snoc, every_set, every_snoc, one_other, times-append, times_snoc, at_get}
 use Rattle.scatter_rows.specs.declared.views.PutView.{PutView}
 use Rattle.scatter_rows.specs.Scattered.{AreDistinct}
 use Rattle.scatter_rows.specs.Rule.{idle, putting, parting, uniting, Putter, Puts, IsCell, HasPut, Celled}

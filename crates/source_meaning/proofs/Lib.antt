@@ -1,10 +1,7 @@
-pub mod Cut
 pub mod First
-pub mod Derived
 pub mod Parsed
 pub mod Depths
 pub mod Stable
-pub mod OneTree
 pub mod Named
 pub mod SameScope
 pub mod Called

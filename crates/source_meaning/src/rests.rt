@@ -42,7 +42,8 @@ pub(crate) struct Branches<'a> {
     pub(crate) then: &'a Stmt,
     pub(crate) otherwise: &'a Stmt,
     pub(crate) numbering: &'a [Entry],
-    ghost numbered: { numbering.now ≡ joined (next_in numbering.now) (numbers (next_in numbering.now) (stmt_of then.now)) (numbers (next_in numbering.now + variables_in (stmt_of then.now)) (stmt_of otherwise.now)) },
+    ghost numbered: { numbering.now ≡ joined (next_in numbering.now) (numbers (next_in numbering.now) (stmt_of then.now))
+        (numbers (next_in numbering.now + variables_in (stmt_of then.now)) (stmt_of otherwise.now)) },
 }
 
 impl<'a> Branches<'a> {

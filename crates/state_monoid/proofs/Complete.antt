@@ -4,7 +4,7 @@ use Rattle.std.specs.Prelude.{nat_eq, slice_index, slice_index_or, Contains}
 use Rattle.std.specs.List.{IsDistinct}
 use Rattle.std.specs.Cmp.Lexicographic.{pointwise}
 use Rattle.std.proofs.lemmas.List.{get_or-map, length-map}
-use Rattle.word_monoid.proofs.Folds.{get_below, all_at, all_first, all_rest}
+use Rattle.word_monoid.specs.Laws.Folds.{get_below, all_at, all_first, all_rest}
 use Rattle.state_monoid.specs.Automaton.{Automaton, IsWord}
 use Rattle.state_monoid.specs.Image.{compose, image, IsReached, IsNumbering}
 use Rattle.state_monoid.specs.declared.explore.Origin.{Origin}
@@ -13,7 +13,8 @@ use Rattle.state_monoid.specs.Explored.{AreExplored, IsRow, AreRows, AreJoined, 
 use Rattle.state_monoid.specs.Places.{value_get, get_value}
 use Rattle.state_monoid.specs.Words.{image_append}
 use Rattle.state_monoid.specs.Reached.{reached_assoc, reached_identity, identity_reached}
-use Rattle.state_monoid.proofs.Searching.{distinct_functions, one_byte}
+use Rattle.state_monoid.proofs.Searching.{distinct_functions}
+use Rattle.state_monoid.specs.Laws.Prefixes.{one_byte}
 
 module _ (d : Automaton) (letters fs : List (List ℕ)) (os : List Origin) (rows : List (List ℕ)) (of_byte : List ℕ)
     (ls : AreLetters d 256 letters of_byte) (so : AreExplored d letters fs os) (rs : AreRows letters fs rows) (all : length rows ≡ length fs) where
@@ -33,10 +34,10 @@ module _ (d : Automaton) (letters fs : List (List ℕ)) (os : List Origin) (rows
   word_after (b ∷ word) w c f at =
       let byte : b < 256 = all_first (λ b. b < 256) b word w in
       let fr : IsReached d f = all_at (IsReached d) fs c f so.reached at in
-      let gr : IsReached d (image d (b ∷ [])) = (b ∷ [], one_byte d b byte, refl) in
+      let gr : IsReached d (image d (b ∷ [])) = (b ∷ [], one_byte b byte, refl) in
       let rest = word_after word (all_rest (λ b. b < 256) b word w) (slice_index (slice_index_or rows c []) (slice_index of_byte b)) (compose f (image d (b ∷ []))) (next_byte c f b byte at) in (
         rest.0,
-        rest.1 ∙ ap Some (reached_assoc d ls.valid f (image d (b ∷ [])) (image d word) fr gr ∙ ap (compose f) (sym (image_append d ls.valid (b ∷ []) word (one_byte d b byte)))),
+        rest.1 ∙ ap Some (reached_assoc d ls.valid f (image d (b ∷ [])) (image d word) fr gr ∙ ap (compose f) (sym (image_append d ls.valid (b ∷ []) word (one_byte b byte)))),
       )
 
   there : (word : List ℕ) → IsWord word → Contains fs (image d word)
@@ -59,7 +60,7 @@ module _ (d : Automaton) (letters fs : List (List ℕ)) (os : List Origin) (rows
     each_byte = λ b h.
         let at : slice_index bytes b ≡ slice_index (slice_index_or rows 0 []) (slice_index of_byte b) =
         ap (λ (l : List ℕ). slice_index l b) is ∙ get_or-map (slice_index (slice_index_or rows 0 [])) of_byte b 0 0 (let len = ls.one_for_each in omega arith) in
-        ap (slice_get fs) at ∙ (next_byte 0 (image d []) b h so.first ∙ ap Some (identity_reached d ls.valid (image d (b ∷ [])) (b ∷ [], one_byte d b h, refl)));
+        ap (slice_get fs) at ∙ (next_byte 0 (image d []) b h so.first ∙ ap Some (identity_reached d ls.valid (image d (b ∷ [])) (b ∷ [], one_byte b h, refl)));
     joined = joined;
   }
 

@@ -7,7 +7,7 @@ use Rattle.std.proofs.lemmas.Bool.{cases_lt}
 use Rattle.std.proofs.lemmas.List.{length-map, get_or-map, get_or-take, get_or-drop, length-take-le, length-drop, length-append, get_or-append-add, get_or_append_left}
 use Rattle.std.proofs.lemmas.List.Elements.{All-append}
 use Rattle.std.proofs.lemmas.List.FromFn.{length-range_with_len, get_or-range_with_len}
-use Rattle.word_monoid.proofs.Folds.{get_below}
+use Rattle.word_monoid.specs.Laws.Folds.{get_below}
 use Rattle.state_monoid.specs.Automaton.{Automaton, IsAutomaton}
 use Rattle.state_monoid.specs.Image.{compose, image}
 use Rattle.state_monoid.specs.declared.explore.Origin.{Origin}

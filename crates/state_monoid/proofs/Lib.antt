@@ -3,4 +3,3 @@ pub mod Searching
 pub mod Joining
 pub mod Complete
 pub mod Counting
-pub mod Prefixes

@@ -6,7 +6,7 @@ use Rattle.std.specs.Cmp.Lexicographic.{pointwise, bytes_decides}
 use Rattle.std.proofs.lemmas.Bool.{cases_lt}
 use Rattle.std.proofs.lemmas.List.Elements.{All-append}
 use Rattle.std.proofs.lemmas.Map.Made.{AllPairs-from_IsDistinct}
-use Rattle.word_monoid.proofs.Folds.{get_below, all_at}
+use Rattle.word_monoid.specs.Laws.Folds.{get_below, all_at}
 use Rattle.state_monoid.specs.Automaton.{Automaton, IsAutomaton, IsWord}
 use Rattle.state_monoid.specs.Image.{compose, image, IsReached, HasMoreThan}
 use Rattle.state_monoid.specs.declared.explore.Origin.{Origin}
@@ -16,6 +16,7 @@ use Rattle.state_monoid.specs.Letters.{IsLetter}
 use Rattle.state_monoid.specs.Explored.{StaysIn, IsNumbered, IsMade, AreExplored, IsRow, AreRows}
 use Rattle.state_monoid.specs.Places.{get_append, get_last, get_pushed, all_pushed, length_pushed, pushed_below, pushed_last, value_get, get_value, some_inj, no_item}
 use Rattle.state_monoid.specs.Words.{length-image, image_append}
+use Rattle.state_monoid.specs.Laws.Prefixes.{one_byte}
 use Rattle.state_monoid.specs.Reached.{reached_length}
 
 pub distinct_functions : (fs : List (List ℕ)) → IsDistinct (pointwise nat_eq) fs → AllPairs (λ f g. f ≢ g) fs
@@ -24,10 +25,6 @@ distinct_functions fs h = AllPairs-from_IsDistinct bytes_decides fs h
 module _ (d : Automaton) where
   pub letter_length : (f : List ℕ) → IsLetter d f → length f ≡ d.states
   letter_length f r = ap (λ (l : List ℕ). length l) (sym r.2) ∙ length-image d (r.0 ∷ [])
-
-  pub one_byte : (b : ℕ) → b < 256 → IsWord (b ∷ [])
-  one_byte b h zero e k = h
-  one_byte b h (suc i) e k = absurd (omega arith)
 
   pub reached_next : IsAutomaton d → (f g : List ℕ) → IsReached d f → IsLetter d g → IsReached d (compose f g)
   reached_next valid f g r l = (

@@ -11,7 +11,7 @@ use Rattle.std.proofs.lemmas.Bool.{lt-ltb, ltb-true}
 use Rattle.std.proofs.lemmas.List.Sums.{position_or_len_is}
 use Rattle.std.proofs.lemmas.List.Elements.{All-append}
 use Rattle.word_monoid.specs.Monoid.{IsMonoid}
-use Rattle.word_monoid.proofs.Folds.{get_below}
+use Rattle.word_monoid.specs.Laws.Folds.{get_below}
 use Rattle.state_monoid.specs.Image.{compose, image, IsReached, IsNumbering}
 use Rattle.state_monoid.specs.Numbering.{Numbering, function_of, number_of, composition}
 use Rattle.state_monoid.specs.Places.{value_get, get_value, equal_lists}
@@ -87,10 +87,12 @@ module _ (m : Numbering) (all : IsNumbering m.automaton m.functions) where
   unit_function = function_at (image m.automaton []) reached_none
 
   left_unit : (a : ℕ) → a < length m.functions → number_of m (compose (function_of m (number_of m (image m.automaton []))) (function_of m a)) ≡ a
-  left_unit a h = ap (λ (f : List ℕ). number_of m (compose f (function_of m a))) unit_function ∙ (ap (number_of m) (identity_reached m.automaton m.is_automaton (function_of m a) (reached_at a h)) ∙ own_number a h)
+  left_unit a h = ap (λ (f : List ℕ). number_of m (compose f (function_of m a))) unit_function
+      ∙ (ap (number_of m) (identity_reached m.automaton m.is_automaton (function_of m a) (reached_at a h)) ∙ own_number a h)
 
   right_unit : (a : ℕ) → a < length m.functions → number_of m (compose (function_of m a) (function_of m (number_of m (image m.automaton [])))) ≡ a
-  right_unit a h = ap (λ (f : List ℕ). number_of m (compose (function_of m a) f)) unit_function ∙ (ap (number_of m) (reached_identity m.automaton m.is_automaton (function_of m a) (reached_at a h)) ∙ own_number a h)
+  right_unit a h = ap (λ (f : List ℕ). number_of m (compose (function_of m a) f)) unit_function
+      ∙ (ap (number_of m) (reached_identity m.automaton m.is_automaton (function_of m a) (reached_at a h)) ∙ own_number a h)
 
   small : (a : ℕ) → a < length m.functions → a < 2 ^ 62
   small a h = let few = m.few in omega arith

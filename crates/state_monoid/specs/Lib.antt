@@ -8,3 +8,4 @@ pub mod Reached
 pub mod Letters
 pub mod Explored
 pub mod Lawful
+pub mod Laws

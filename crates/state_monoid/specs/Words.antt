@@ -4,7 +4,7 @@ use Rattle.std.specs.List.{range_with_len}
 use Rattle.std.specs.Prelude.{slice_index}
 use Rattle.std.proofs.lemmas.List.{take_more}
 use Rattle.std.proofs.lemmas.List.FromFn.{length-map-range_with_len, get_or-map-range_with_len, get_or-range_with_len, length-range_with_len}
-use Rattle.word_monoid.proofs.Folds.{all_first, all_rest}
+use Rattle.word_monoid.specs.Laws.Folds.{all_first, all_rest}
 use Rattle.state_monoid.specs.Automaton.{Automaton, IsAutomaton, IsWord, step, run}
 use Rattle.state_monoid.specs.Image.{IsFunction, compose, image}
 use Rattle.state_monoid.specs.Functions.{map_map, map_id, map_same, all_map}

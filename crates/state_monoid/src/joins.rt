@@ -82,7 +82,8 @@ fn join_next(
     requires letter { origin.letter < length columns.now }
     requires codes { All (λ code. code < length (slice_index_or (map (λ column. column.items) columns.now) origin.letter [])) joins.old.items }
     requires within { origin.before * count + count ≤ length joins.old.items }
-    ensures { OnOk result (joins.new.items ≡ joins.old.items ++ map (slice_index (slice_index_or (map (λ column. column.items) columns.now) origin.letter [])) (take count (drop (origin.before * count) joins.old.items))) }
+    ensures { OnOk result (joins.new.items ≡ joins.old.items ++ map (slice_index (slice_index_or (map (λ column. column.items) columns.now) origin.letter []))
+        (take count (drop (origin.before * count) joins.old.items))) }
 {
     let column = &columns[origin.letter as usize];
     append(alloc, joins, origin.before as usize * count, count, column)

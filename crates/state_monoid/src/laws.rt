@@ -37,8 +37,10 @@ pub fn bytes_have_items(compositions: &Compositions)
 /// What an automaton has read is known from the prefixes of the numbers of the bytes: at each place the function of the bytes before
 /// it, and from each state the state that these lead to.
 pub fn prefixes_are_runs(compositions: &Compositions, bytes: &[u8])
-    ensures functions { (i c : ℕ) → slice_get (prefixes (composition compositions.now) (map (byte_number compositions.now) bytes.now)) i ≡ Some c → slice_get compositions.now.functions c ≡ Some (image compositions.now.automaton (take i bytes.now)) }
-    ensures states { (i c s : ℕ) → slice_get (prefixes (composition compositions.now) (map (byte_number compositions.now) bytes.now)) i ≡ Some c → s < compositions.now.automaton.states → slice_index (function_of compositions.now c) s ≡ run compositions.now.automaton s (take i bytes.now) }
+    ensures functions { (i c : ℕ) → slice_get (prefixes (composition compositions.now) (map (byte_number compositions.now) bytes.now)) i ≡ Some c
+        → slice_get compositions.now.functions c ≡ Some (image compositions.now.automaton (take i bytes.now)) }
+    ensures states { (i c s : ℕ) → slice_get (prefixes (composition compositions.now) (map (byte_number compositions.now) bytes.now)) i ≡ Some c
+        → s < compositions.now.automaton.states → slice_index (function_of compositions.now c) s ≡ run compositions.now.automaton s (take i bytes.now) }
 {
     let _ = compositions;
     let _ = bytes;

@@ -13,7 +13,7 @@ use Rattle.llp_tables.specs.Cells.{IsBefore}
 use Rattle.ll1_sets.specs.Width.{width_of}
 use Rattle.ll1_sets.specs.Predict.{IsLl1, IsLeastConflict, IsNotLeftRecursive}
 use Rattle.llp_tables.specs.Tables.{IsTableFault}
-use Rattle.llp_tables.proofs.StackOrder.{before_cases, before_not_itself, before_trans}
+use Rattle.llp_tables.specs.Laws.StackOrder.{before_cases, before_not_itself, before_trans}
 use Rattle.llp_wide.specs.Wide.{IsWideLlp, HasTwoWideMembers, IsLeastWideConflict}
 use Rattle.llp_wide.specs.WideEntries.{CountsTriples, triple_place}
 use Rattle.llp_wide.specs.WideFaults.{IsWideFault}

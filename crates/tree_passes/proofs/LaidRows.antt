@@ -11,7 +11,7 @@ use Rattle.ast_rows.specs.NodeRows.{token_word, token_of}
 use Rattle.row_laws.specs.Marks.{Mark, mark}
 use Rattle.source_meaning.specs.declared.kinds.Kind.TheVariants.{Program as ProgramKind}
 use Rattle.row_laws.specs.Climbed.{mark_at, parent_at, parents_by, place_at, settled_at}
-use Rattle.row_laws.proofs.Climbed.{lows_many}
+use Rattle.row_laws.specs.Laws.Climbed.{lows_many}
 use Rattle.row_walk.specs.Walk.{made_by, start}
 use Rattle.row_walk.specs.Marks.{mark_of}
 use Rattle.row_pieces.specs.Pieces.{closes_all, stood}

@@ -5,9 +5,9 @@ use Rattle.std.specs.List.{range_with_len}
 use Rattle.std.proofs.lemmas.List.FromFn.{get_or-map-range_with_len, get_or-range_with_len, length-map-range_with_len, length-range_with_len, map-range_with_len_more}
 use Rattle.std.proofs.lemmas.Bool.{cases_lt}
 use Rattle.std.proofs.lemmas.List.{get_or-map, length-map}
-use Rattle.scan_lookback.proofs.Lists.{flat_map_more}
+use Rattle.scan_lookback.specs.Laws.Lists.{flat_map_more}
 use Rattle.par_passes.specs.Passes.{Gives}
-use Rattle.par_passes.proofs.Giving.{gives_maps}
+use Rattle.par_passes.specs.Laws.Giving.{gives_maps}
 
 pub flat_next : {X : Type 0} (f : ℕ → List X) (c : ℕ) → flat_map f (range_with_len 0 (suc c)) ≡ flat_map f (range_with_len 0 c) ++ f c
 flat_next f c =

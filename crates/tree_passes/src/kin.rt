@@ -84,7 +84,8 @@ pub(crate) fn find_all(
 {
     let alloc = crew.alloc();
     let make = |c: u64| -> Result<Found, AllocError>
-        requires { (length columns.now.kinds.items ≤ 4294967295) × (length columns.now.lows.items ≡ length columns.now.kinds.items) × AreCuts ends.now (length columns.now.kinds.items) × (c < length ends.now) }
+        requires { (length columns.now.kinds.items ≤ 4294967295) × (length columns.now.lows.items ≡ length columns.now.kinds.items)
+            × AreCuts ends.now (length columns.now.kinds.items) × (c < length ends.now) }
         ensures { IfOk result (λ v. AreFound columns.entry.now.kinds.items columns.entry.now.lows.items columns.entry.now.tokens.items (start_of ends.entry.now c) (number_at ends.entry.now c) v) }
     { find_by_number(alloc, columns, ends, c as usize) };
     crew.bundles(ends.len(), &make)
@@ -121,7 +122,8 @@ pub(crate) fn join_found(
 ) -> Result<Found, AllocError>
     requires cuts { AreCuts ends.now (length columns.now.kinds.items) }
     requires many { length parts.now ≡ length ends.now }
-    requires each { (c : ℕ) (x : AnyFound) → slice_get parts.now c ≡ Some x → AreFound columns.now.kinds.items columns.now.lows.items columns.now.tokens.items (start_of ends.now c) (number_at ends.now c) x }
+    requires each { (c : ℕ) (x : AnyFound) → slice_get parts.now c ≡ Some x
+        → AreFound columns.now.kinds.items columns.now.lows.items columns.now.tokens.items (start_of ends.now c) (number_at ends.now c) x }
     ensures ties { IfOk result (λ v. AreTies (ties_by_stretches columns.now.lows.items ends.now) v.kin.parents.items v.kin.lows.items v.kin.places.items v.kin.counts.items) }
     ensures least { IfOk result (λ v. v.least ≡ least_in columns.now.kinds.items columns.now.lows.items columns.now.tokens.items 0 (length columns.now.kinds.items)) }
 {

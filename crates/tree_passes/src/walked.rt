@@ -90,7 +90,8 @@ pub(crate) fn columns_all(
     requires begun { length ends.now ≤ length starts.now }
     requires handed { AreHanded source.now.numbers.now ends.now handed.now }
     ensures many { IfOk result (λ v. length v.items ≡ length ends.now) }
-    ensures each { IfOk result (λ v. (c : ℕ) (x : AnyColumns) → slice_get v.items c ≡ Some x → AreColumnsOf source.now.text.now source.now.numbers.now ends.now c x.kinds.items x.lows.items x.tokens.items) }
+    ensures each { IfOk result (λ v. (c : ℕ) (x : AnyColumns) → slice_get v.items c ≡ Some x
+        → AreColumnsOf source.now.text.now source.now.numbers.now ends.now c x.kinds.items x.lows.items x.tokens.items) }
 {
     let alloc = crew.alloc();
     let make = |c: u64| -> Result<Columns, AllocError>

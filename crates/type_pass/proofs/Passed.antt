@@ -11,7 +11,7 @@ use Rattle.ast_rows.specs.NameRows.{NameRows, row_word}
 use Rattle.ast_rows.specs.NodeRows.{lows_of, parent_numbers}
 use Rattle.row_rules.specs.Keys.{no_key, told}
 use Rattle.row_rules.specs.Means.{AreNames}
-use Rattle.row_rules.proofs.Shaped.{program_named}
+use Rattle.row_rules.specs.Laws.Shaped.{program_named}
 use Rattle.depth_rules.specs.Segments.{functions_by}
 use Rattle.depth_rules.specs.Sums.{kinds_of, places_of}
 use Rattle.typing_rules.specs.Columns.{types_by}

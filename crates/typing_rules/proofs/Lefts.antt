@@ -11,14 +11,14 @@ use Rattle.source_meaning.specs.Shape.{is_name}
 use Rattle.ast_rows.specs.NameRows.{NameRows, row_word}
 use Rattle.ast_rows.specs.NodeRows.{low_at, lows_of, parent_numbers}
 use Rattle.ast_rows.specs.Subtrees.{nodes_lows}
-use Rattle.ast_rows.proofs.Subtrees.{lows_told}
+use Rattle.ast_rows.specs.Laws.Subtrees.{lows_told}
 use Rattle.row_rules.specs.Alignment.{IsNamed, AreNamed, IsNamedStmt, AreNamedStmts, IsNamedProgram}
 use Rattle.row_rules.specs.Means.{AreNames}
 use Rattle.row_rules.specs.Steps.{is_assign, is_left, kind_at, parent_kind}
 use Rattle.row_rules.specs.Visible.{no_row, row_at}
-use Rattle.row_rules.proofs.Siblings.{one_of_place}
+use Rattle.row_rules.specs.Laws.Siblings.{one_of_place}
 use Rattle.source_meaning.specs.Scope.{sites}
-use Rattle.depth_rules.proofs.Summed.{same_length}
+use Rattle.depth_rules.specs.Laws.Summed.{same_length}
 use Rattle.typing_rules.specs.Columns.{Held, IsFirstChild}
 use Rattle.typing_rules.proofs.Elders.{below, root_is, many, up_pos, last_up}
 

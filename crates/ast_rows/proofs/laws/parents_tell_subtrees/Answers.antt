@@ -1,5 +1,5 @@
 -- The law `parents_tell_subtrees`, by its lemmas.
-use Rattle.ast_rows.proofs.Subtrees.{counts_told, lows_told}
+use Rattle.ast_rows.specs.Laws.Subtrees.{counts_told, lows_told}
 use Rattle.ast_rows.proofs.laws.parents_tell_subtrees.Goals as goal
 
 pub returns-clause-lows : goal.returns-clause-lows

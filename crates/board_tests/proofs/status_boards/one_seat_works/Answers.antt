@@ -1,4 +1,4 @@
-use Rattle.scan_lookback.proofs.Rows.{three_sums}
+use Rattle.board_tests.proofs.Rows.{three_sums}
 use Rattle.board_tests.proofs.status_boards.one_seat_works.Goals as goal
 
 pub works-requires-clause-names : goal.works-requires-clause-names

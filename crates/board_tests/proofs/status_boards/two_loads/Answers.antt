@@ -1,4 +1,4 @@
-use Rattle.scan_lookback.proofs.Rows.{four_fives}
+use Rattle.board_tests.proofs.Rows.{four_fives}
 use Rattle.board_tests.proofs.status_boards.two_loads.Goals as goal
 
 pub looks_back-requires-clause-names : goal.looks_back-requires-clause-names

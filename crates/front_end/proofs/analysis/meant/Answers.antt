@@ -1,5 +1,5 @@
 use Rattle.std.proofs.Common.{◌≤◌, length, arith}
-use Rattle.front_end.proofs.Counting.{tree_few}
+use Rattle.front_end.specs.Laws.Counting.{tree_few}
 use Rattle.front_end.proofs.analysis.meant.Goals as goal
 
 pub named-requires-clause-few : goal.named-requires-clause-few

@@ -7,7 +7,7 @@ use Rattle.ast_rows.specs.TokenRows.{TokenRow, row_of}
 use Rattle.row_rules.specs.Formed.{IsFormed}
 use Rattle.name_pass.specs.Spelling.{spelled}
 use Rattle.verdict.specs.Verdict.{IsVerdict, Diagnosed}
-use Rattle.front_end.proofs.Counting.{rows_few}
+use Rattle.front_end.specs.Laws.Counting.{rows_few}
 use Rattle.front_end.proofs.Judging.{scope_told}
 use Rattle.front_end.proofs.phases.named.Goals as goal
 

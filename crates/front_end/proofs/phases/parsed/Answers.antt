@@ -8,7 +8,7 @@ use Rattle.glue_summary.specs.Parsing.{IsFaultBy}
 use Rattle.glue_summary.specs.declared.fault.ParseFault.TheVariants.{Syntax}
 use Rattle.ast_rows.specs.TokenRows.{TokenRow}
 use Rattle.verdict.specs.Verdict.{IsVerdict, Diagnosed, syntactic}
-use Rattle.front_end.proofs.Counting.{rows_few}
+use Rattle.front_end.specs.Laws.Counting.{rows_few}
 use Rattle.front_end.proofs.Placing.{terminals_of}
 use Rattle.front_end.proofs.phases.parsed.Goals as goal
 

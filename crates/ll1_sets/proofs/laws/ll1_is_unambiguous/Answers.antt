@@ -1,4 +1,4 @@
-use Rattle.ll1_sets.proofs.Ll1.{left_parse_same, tree_same}
+use Rattle.ll1_sets.specs.Laws.Ll1.{left_parse_same, tree_same}
 use Rattle.ll1_sets.proofs.laws.ll1_is_unambiguous.Goals as goal
 
 pub returns : goal.returns

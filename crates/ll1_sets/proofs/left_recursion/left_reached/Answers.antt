@@ -1,6 +1,6 @@
 use Rattle.std.proofs.Common.{◌∙◌, true, arith}
 use Rattle.std.proofs.lemmas.List.{length-set}
-use Rattle.grammar_file.proofs.Marks.{moved}
+use Rattle.grammar_file.specs.Laws.Marks.{moved}
 use Rattle.ll1_sets.specs.LeftReached.{IsNextLeft, IsLeftClosed}
 use Rattle.ll1_sets.proofs.FrontMarks.{left_turn, left_marked}
 use Rattle.ll1_sets.proofs.left_recursion.left_reached.Goals as goal

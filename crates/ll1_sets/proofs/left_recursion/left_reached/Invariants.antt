@@ -1,5 +1,5 @@
 use Rattle.std.proofs.Common.{◌≡◌, ℕ, length, true, false, get_or}
-use Rattle.grammar_file.proofs.Marks.{unmarked}
+use Rattle.grammar_file.specs.Laws.Marks.{unmarked}
 use Rattle.ll1_sets.specs.LeftReached.{IsLeftReached}
 use Rattle.ll1_sets.proofs.left_recursion.left_reached.Given as goal
 

@@ -1,8 +1,8 @@
 use Rattle.std.proofs.Common.{◌∙◌, true, arith}
 use Rattle.std.proofs.lemmas.List.{length-set}
-use Rattle.grammar_file.proofs.Marks.{moved}
+use Rattle.grammar_file.specs.Laws.Marks.{moved}
 use Rattle.ll1_sets.specs.Marking.{begins, IsNextBy, IsClosedBy}
-use Rattle.ll1_sets.proofs.FormTests.{first_turn, first_marked}
+use Rattle.ll1_sets.specs.Laws.FormTests.{first_turn, first_marked}
 use Rattle.ll1_sets.proofs.sets.first.Goals as goal
 
 pub index_mut-requires : goal.index_mut-requires

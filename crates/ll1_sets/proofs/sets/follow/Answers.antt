@@ -1,9 +1,9 @@
 use Rattle.std.proofs.Common.{◌∙◌, sym, subst, true, arith}
 use Rattle.std.proofs.lemmas.List.{length-set}
-use Rattle.grammar_file.proofs.Marks.{moved, marked_stays}
+use Rattle.grammar_file.specs.Laws.Marks.{moved, marked_stays}
 use Rattle.ll1_sets.specs.Predict.{IsFollow}
 use Rattle.ll1_sets.specs.Marking.{IsNextFollow, IsFollowClosed}
-use Rattle.ll1_sets.proofs.FollowMarks.{follow_start, follow_turn, follow_marked}
+use Rattle.ll1_sets.specs.Laws.FollowMarks.{follow_start, follow_turn, follow_marked}
 use Rattle.ll1_sets.proofs.sets.follow.Goals as goal
 
 pub loop-a-init : goal.loop-a-init

@@ -1,6 +1,6 @@
 use Rattle.std.proofs.Common.{◌≡◌, ℕ, length, true, false, get_or}
 use Rattle.grammar_file.specs.Grammar.{end_mark}
-use Rattle.grammar_file.proofs.Marks.{unmarked}
+use Rattle.grammar_file.specs.Laws.Marks.{unmarked}
 use Rattle.ll1_sets.specs.Predict.{IsFollow}
 use Rattle.ll1_sets.proofs.sets.follow.Given as goal
 

@@ -1,6 +1,6 @@
 use Rattle.std.proofs.Common.{◌∙◌, true, arith}
 use Rattle.std.proofs.lemmas.List.{length-set}
-use Rattle.grammar_file.proofs.Marks.{moved}
+use Rattle.grammar_file.specs.Laws.Marks.{moved}
 use Rattle.ll1_sets.specs.Marking.{IsNextBy, IsClosedBy}
 use Rattle.llp_wide.specs.Endings.{finishes}
 use Rattle.llp_wide.proofs.LastSets.{last_turn, last_marked}

@@ -1,6 +1,6 @@
 use Rattle.std.proofs.Common.{◌≡◌, ℕ, [], ◌∷◌, length, true, false, get_or}
 use Rattle.grammar_file.specs.declared.symbols.Symbol.TheVariants.{Nonterminal}
-use Rattle.grammar_file.proofs.Marks.{unmarked}
+use Rattle.grammar_file.specs.Laws.Marks.{unmarked}
 use Rattle.llp_wide.specs.Endings.{IsLast}
 use Rattle.llp_wide.proofs.endings.last.Given as goal
 

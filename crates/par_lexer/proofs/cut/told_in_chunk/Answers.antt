@@ -1,4 +1,4 @@
-use Rattle.par_passes.proofs.Calling.{if_ok}
+use Rattle.par_passes.specs.Laws.Calling.{if_ok}
 use Rattle.par_lexer.proofs.Running.{bytes_of}
 use Rattle.par_lexer.proofs.Together.{start_there, chunk_told}
 use Rattle.par_lexer.proofs.cut.told_in_chunk.Goals as goal

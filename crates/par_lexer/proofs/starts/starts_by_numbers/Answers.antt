@@ -1,5 +1,5 @@
 use Rattle.std.proofs.Common.{◌*◌, ap, ◌∙◌, arith}
-use Rattle.scan_lookback.proofs.Assembling.{one_value_more}
+use Rattle.scan_lookback.specs.Laws.Assembling.{one_value_more}
 use Rattle.par_lexer.specs.Places.{state_before}
 use Rattle.par_lexer.proofs.Running.{bytes_of}
 use Rattle.par_lexer.proofs.Numbered.{number_at, numbers_many, chunk_below, start_next}

@@ -1,6 +1,6 @@
 use Rattle.std.proofs.Common.{arith}
 use Rattle.par_passes.proofs.Bundling.{gave_each}
-use Rattle.par_passes.proofs.Giving.{each_number}
+use Rattle.par_passes.specs.Laws.Giving.{each_number}
 use Rattle.par_passes.proofs.bundles.bundles.Given as given
 use Rattle.par_passes.proofs.bundles.bundles.Goals as goal
 

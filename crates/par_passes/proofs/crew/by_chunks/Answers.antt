@@ -1,5 +1,5 @@
 use Rattle.std.proofs.Common.{arith}
-use Rattle.par_passes.proofs.Giving.{each_number}
+use Rattle.par_passes.specs.Laws.Giving.{each_number}
 use Rattle.par_passes.proofs.crew.by_chunks.Given as given
 use Rattle.par_passes.proofs.crew.by_chunks.Goals as goal
 

@@ -1,5 +1,5 @@
-use Rattle.par_passes.proofs.Giving.{each_number, first_number}
-use Rattle.par_passes.proofs.Together.{if_ok}
+use Rattle.par_passes.specs.Laws.Giving.{each_number, first_number}
+use Rattle.par_passes.specs.Laws.Together.{if_ok}
 use Rattle.par_passes.proofs.dealt.begin_list.Given as given
 use Rattle.par_passes.proofs.dealt.begin_list.Goals as goal
 

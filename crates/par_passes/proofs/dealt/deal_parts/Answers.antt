@@ -4,8 +4,8 @@ use Rattle.std.proofs.lemmas.List.FromFn.{length-range_with_len}
 use Rattle.chunk_seats.specs.Chunks.{chunk_of, chunk_count}
 use Rattle.list_parts.specs.Parts.{part_items}
 use Rattle.par_passes.specs.Passes.{Gives}
-use Rattle.par_passes.proofs.Together.{if_ok}
-use Rattle.par_passes.proofs.Giving.{gives_weaker, gives_chunks}
+use Rattle.par_passes.specs.Laws.Together.{if_ok}
+use Rattle.par_passes.specs.Laws.Giving.{gives_weaker, gives_chunks}
 use Rattle.par_passes.proofs.dealt.deal_parts.Goals as goal
 
 pub returns-clause-values : goal.returns-clause-values

@@ -1,5 +1,5 @@
 use Rattle.std.proofs.Common.{◌∙◌, arith}
-use Rattle.par_passes.proofs.Giving.{known_kept}
+use Rattle.par_passes.specs.Laws.Giving.{known_kept}
 use Rattle.par_passes.proofs.dealt.extend_to.Given as given
 use Rattle.par_passes.proofs.dealt.extend_to.Goals as goal
 

@@ -1,7 +1,7 @@
 use Rattle.std.proofs.Common.{◌≡◌, rules, refl, length, arith, ◌∙◌, sym}
 use Rattle.std.specs.List.{range_with_len}
 use Rattle.std.proofs.lemmas.List.FromFn.{length-range_with_len}
-use Rattle.par_passes.proofs.Giving.{number_from, put_number, put_all}
+use Rattle.par_passes.specs.Laws.Giving.{number_from, put_number, put_all}
 use Rattle.par_passes.proofs.dealt.fill_behind.Given as given
 use Rattle.par_passes.proofs.dealt.fill_behind.Goals as goal
 

@@ -1,9 +1,9 @@
 use Rattle.std.proofs.Common.{◌≡◌, ◌*◌, ◌≤◌, length, arith, sym, subst}
 use Rattle.std.specs.List.{range_with_len}
-use Rattle.scan_lookback.proofs.Cutting.{chunks_all}
+use Rattle.scan_lookback.specs.Laws.Cutting.{chunks_all}
 use Rattle.par_passes.specs.Passes.{Gives}
-use Rattle.par_passes.proofs.Together.{if_ok}
-use Rattle.par_passes.proofs.Giving.{each_number}
+use Rattle.par_passes.specs.Laws.Together.{if_ok}
+use Rattle.par_passes.specs.Laws.Giving.{each_number}
 use Rattle.par_passes.proofs.dealt.fill_in_turn.Given as given
 use Rattle.par_passes.proofs.dealt.fill_in_turn.Goals as goal
 

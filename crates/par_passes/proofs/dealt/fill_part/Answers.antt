@@ -2,8 +2,8 @@ use Rattle.std.proofs.Common.{◌-◌, ◌∙◌, ap, sym, subst, take, length, 
 use Rattle.std.specs.List.{range_with_len}
 use Rattle.chunk_seats.specs.Chunks.{chunk_of}
 use Rattle.par_passes.specs.Passes.{Gives}
-use Rattle.par_passes.proofs.Giving.{numbers_of_chunk}
-use Rattle.par_passes.proofs.Together.{all_chunk}
+use Rattle.par_passes.specs.Laws.Giving.{numbers_of_chunk}
+use Rattle.par_passes.specs.Laws.Together.{all_chunk}
 use Rattle.par_passes.proofs.dealt.fill_part.Given as given
 use Rattle.par_passes.proofs.dealt.fill_part.Goals as goal
 

@@ -1,8 +1,8 @@
 use Rattle.std.proofs.Common.{sym, ◌∙◌}
 use Rattle.std.specs.List.{range_with_len}
 use Rattle.std.proofs.lemmas.List.FromFn.{length-range_with_len}
-use Rattle.par_passes.proofs.Marking.{as_wide}
-use Rattle.par_passes.proofs.Giving.{known_first}
+use Rattle.par_passes.specs.Laws.Marking.{as_wide}
+use Rattle.par_passes.specs.Laws.Giving.{known_first}
 use Rattle.par_passes.proofs.dealt.fill_whole.Given as given
 use Rattle.par_passes.proofs.dealt.fill_whole.Goals as goal
 

@@ -1,7 +1,7 @@
 use Rattle.std.proofs.Common.{ℕ, ◌+◌, sym, ap, subst, ◌∙◌, arith}
 use Rattle.std.specs.Mem.{type_size}
 use Rattle.deal_board.specs.Returned.{Returned}
-use Rattle.list_parts.proofs.Chains.{fits_less}
+use Rattle.list_parts.specs.Laws.Chains.{fits_less}
 use Rattle.par_passes.proofs.Gluing.{Glued, one, behind, fits, next}
 use Rattle.par_passes.proofs.dealt.glue_back.Goals as goal
 

@@ -1,5 +1,5 @@
-use Rattle.par_passes.proofs.Giving.{gives_maps}
-use Rattle.par_passes.proofs.Together.{if_ok}
+use Rattle.par_passes.specs.Laws.Giving.{gives_maps}
+use Rattle.par_passes.specs.Laws.Together.{if_ok}
 use Rattle.par_passes.proofs.each.map.Given as given
 use Rattle.par_passes.proofs.each.map.Goals as goal
 

@@ -1,6 +1,6 @@
 use Rattle.std.proofs.Common.{◌<◌, All, length}
-use Rattle.par_passes.proofs.Giving.{all_numbers, gives_by_number}
-use Rattle.par_passes.proofs.Together.{if_ok}
+use Rattle.par_passes.specs.Laws.Giving.{all_numbers, gives_by_number}
+use Rattle.par_passes.specs.Laws.Together.{if_ok}
 use Rattle.par_passes.proofs.each.map_by_number.Given as given
 use Rattle.par_passes.proofs.each.map_by_number.Goals as goal
 

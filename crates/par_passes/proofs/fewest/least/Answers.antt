@@ -1,8 +1,8 @@
 use Rattle.std.proofs.Common.{◌<◌, length, ap, ◌∙◌}
 use Rattle.par_passes.specs.Least.{least_key}
-use Rattle.par_passes.proofs.Giving.{all_numbers}
+use Rattle.par_passes.specs.Laws.Giving.{all_numbers}
 use Rattle.par_passes.proofs.Lowest.{keys_by_place}
-use Rattle.par_passes.proofs.Together.{if_ok}
+use Rattle.par_passes.specs.Laws.Together.{if_ok}
 use Rattle.par_passes.proofs.fewest.least.Goals as goal
 
 pub least_by_number-requires-clause-callable : goal.least_by_number-requires-clause-callable

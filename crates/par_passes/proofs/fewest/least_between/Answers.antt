@@ -1,5 +1,5 @@
 use Rattle.std.proofs.Common.{◌≡◌, ℕ, ◌∙◌, arith}
-use Rattle.par_passes.proofs.Giving.{number_from}
+use Rattle.par_passes.specs.Laws.Giving.{number_from}
 use Rattle.par_passes.proofs.Lowest.{least_more}
 use Rattle.par_passes.proofs.fewest.least_between.Given as given
 use Rattle.par_passes.proofs.fewest.least_between.Goals as goal

@@ -1,5 +1,5 @@
 use Rattle.std.proofs.Common.{◌<◌, ◌^◌, arith}
-use Rattle.par_passes.proofs.Giving.{all_numbers, each_number}
+use Rattle.par_passes.specs.Laws.Giving.{all_numbers, each_number}
 use Rattle.par_passes.proofs.fewest.least_of.Given as given
 use Rattle.par_passes.proofs.fewest.least_of.Goals as goal
 

@@ -1,9 +1,9 @@
 use Rattle.std.proofs.Common.{◌≡◌, ℕ, All, map, sym, ap, subst, ◌∙◌}
 use Rattle.std.specs.List.{range_with_len}
 use Rattle.par_passes.specs.Least.{least_key}
-use Rattle.par_passes.proofs.Together.{all_chunk}
-use Rattle.par_passes.proofs.Giving.{numbers_in_chunk}
-use Rattle.par_passes.proofs.Marking.{map_chunk}
+use Rattle.par_passes.specs.Laws.Together.{all_chunk}
+use Rattle.par_passes.specs.Laws.Giving.{numbers_in_chunk}
+use Rattle.par_passes.specs.Laws.Marking.{map_chunk}
 use Rattle.par_passes.proofs.fewest.least_of_chunk.Given as given
 use Rattle.par_passes.proofs.fewest.least_of_chunk.Goals as goal
 

@@ -1,7 +1,7 @@
 use Rattle.std.proofs.Common.{map, filter, ◌∙◌}
 use Rattle.std.specs.List.{zip}
 use Rattle.chunk_seats.specs.Chunks.{chunk_of}
-use Rattle.par_passes.proofs.Together.{if_ok, marked_together, marked_chunk}
+use Rattle.par_passes.specs.Laws.Together.{if_ok, marked_together, marked_chunk}
 use Rattle.par_passes.proofs.marked.compact.Goals as goal
 
 pub returns : goal.returns

@@ -1,6 +1,6 @@
 use Rattle.std.proofs.Common.{◌∙◌}
-use Rattle.par_passes.proofs.Together.{if_ok}
-use Rattle.par_passes.proofs.Marking.{marked_all}
+use Rattle.par_passes.specs.Laws.Together.{if_ok}
+use Rattle.par_passes.specs.Laws.Marking.{marked_all}
 use Rattle.par_passes.proofs.marked.keep_in_turn.Goals as goal
 
 pub returns : goal.returns

@@ -1,5 +1,5 @@
 use Rattle.std.proofs.Common.{false}
-use Rattle.par_passes.proofs.Marking.{push_item}
+use Rattle.par_passes.specs.Laws.Marking.{push_item}
 use Rattle.par_passes.proofs.marked.keep_onto.Goals as goal
 
 pub loop-k-preserved : goal.loop-k-preserved

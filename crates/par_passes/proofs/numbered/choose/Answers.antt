@@ -3,7 +3,7 @@ use Rattle.std.specs.List.{range_with_len}
 use Rattle.std.proofs.lemmas.List.Elements.{filter-append}
 use Rattle.std.proofs.lemmas.List.FromFn.{length-range_with_len}
 use Rattle.chunk_seats.specs.Chunks.{chunk_of, chunk_count}
-use Rattle.par_passes.proofs.Together.{if_ok, together}
+use Rattle.par_passes.specs.Laws.Together.{if_ok, together}
 use Rattle.par_passes.proofs.numbered.choose.Goals as goal
 
 pub returns : goal.returns

@@ -1,7 +1,7 @@
 use Rattle.std.proofs.Common.{◌≡◌, ◌++◌, ℕ, Bool, All, filter, sym, ap, subst, ◌∙◌}
 use Rattle.std.specs.List.{range_with_len}
-use Rattle.par_passes.proofs.Giving.{numbers_in_chunk}
-use Rattle.par_passes.proofs.Together.{all_chunk, if_ok}
+use Rattle.par_passes.specs.Laws.Giving.{numbers_in_chunk}
+use Rattle.par_passes.specs.Laws.Together.{all_chunk, if_ok}
 use Rattle.par_passes.proofs.numbered.choose_chunk_onto.Given as given
 use Rattle.par_passes.proofs.numbered.choose_chunk_onto.Goals as goal
 

@@ -2,7 +2,7 @@ use Rattle.std.proofs.Common.{◌∙◌, ap, sym, filter}
 use Rattle.std.specs.List.{range_with_len}
 use Rattle.std.proofs.lemmas.List.FromFn.{length-range_with_len}
 use Rattle.chunk_seats.specs.Chunks.{chunk_count}
-use Rattle.par_passes.proofs.Together.{if_ok, whole_list}
+use Rattle.par_passes.specs.Laws.Together.{if_ok, whole_list}
 use Rattle.par_passes.proofs.numbered.choose_in_turn.Goals as goal
 
 pub returns : goal.returns

@@ -1,5 +1,5 @@
 use Rattle.std.proofs.Common.{◌≡◌, Bool, arith}
-use Rattle.par_passes.proofs.Giving.{number_from}
+use Rattle.par_passes.specs.Laws.Giving.{number_from}
 use Rattle.par_passes.proofs.Choosing.{choose_more}
 use Rattle.par_passes.proofs.numbered.choose_onto.Given as given
 use Rattle.par_passes.proofs.numbered.choose_onto.Goals as goal

@@ -1,5 +1,5 @@
 use Rattle.std.proofs.Common.{◌<◌, ◌^◌, arith}
-use Rattle.par_passes.proofs.Giving.{all_numbers, each_number}
+use Rattle.par_passes.specs.Laws.Giving.{all_numbers, each_number}
 use Rattle.par_passes.proofs.numbered.numbers_where.Given as given
 use Rattle.par_passes.proofs.numbered.numbers_where.Goals as goal
 

@@ -1,7 +1,7 @@
 use Rattle.std.proofs.Common.{◌<◌, All, length}
 use Rattle.par_passes.proofs.Choosing.{chosen_places}
-use Rattle.par_passes.proofs.Giving.{all_numbers}
-use Rattle.par_passes.proofs.Together.{if_ok}
+use Rattle.par_passes.specs.Laws.Giving.{all_numbers}
+use Rattle.par_passes.specs.Laws.Together.{if_ok}
 use Rattle.par_passes.proofs.numbered.positions.Given as given
 use Rattle.par_passes.proofs.numbered.positions.Goals as goal
 

@@ -1,8 +1,8 @@
 use Rattle.std.proofs.Common.{◌∙◌, ◌<◌, ◌^◌, arith}
 use Rattle.std.specs.List.{range_with_len}
 use Rattle.std.proofs.lemmas.List.FromFn.{length-range_with_len}
-use Rattle.par_passes.proofs.Together.{if_ok}
-use Rattle.par_passes.proofs.Giving.{all_numbers, each_number, gives_maps}
+use Rattle.par_passes.specs.Laws.Together.{if_ok}
+use Rattle.par_passes.specs.Laws.Giving.{all_numbers, each_number, gives_maps}
 use Rattle.par_passes.proofs.numbered.tabulate.Given as given
 use Rattle.par_passes.proofs.numbered.tabulate.Goals as goal
 

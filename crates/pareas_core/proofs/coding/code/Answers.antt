@@ -1,5 +1,5 @@
 use Rattle.std.proofs.Common.{arith}
-use Rattle.front_end.proofs.Counting.{tree_few}
+use Rattle.front_end.specs.Laws.Counting.{tree_few}
 use Rattle.pareas_core.proofs.coding.code.Goals as goal
 
 pub depths-requires-clause-nodes : goal.depths-requires-clause-nodes

@@ -1,7 +1,7 @@
 use Rattle.std.proofs.Common.{leb, length, ap, ◌∙◌}
 use Rattle.std.proofs.lemmas.List.{length-map}
 use Rattle.par_passes.specs.Passes.{marked}
-use Rattle.par_passes.proofs.Calling.{if_ok, marked_by}
+use Rattle.par_passes.specs.Laws.Calling.{if_ok, marked_by}
 use Rattle.pass_tests.proofs.callers.at_least.Goals as goal
 
 pub compact-requires-clause-marks : goal.compact-requires-clause-marks

@@ -1,4 +1,4 @@
-use Rattle.par_passes.proofs.Calling.{if_ok}
+use Rattle.par_passes.specs.Laws.Calling.{if_ok}
 use Rattle.pass_tests.proofs.callers.in_order.Goals as goal
 
 pub returns : goal.returns

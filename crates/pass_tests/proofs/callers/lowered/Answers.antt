@@ -1,6 +1,6 @@
 use Rattle.std.proofs.Common.{◌≤◌}
-use Rattle.par_passes.proofs.Calling.{if_ok}
-use Rattle.par_passes.proofs.Giving.{gives_weaker}
+use Rattle.par_passes.specs.Laws.Calling.{if_ok}
+use Rattle.par_passes.specs.Laws.Giving.{gives_weaker}
 use Rattle.pass_tests.proofs.callers.lowered.Goals as goal
 
 pub returns : goal.returns

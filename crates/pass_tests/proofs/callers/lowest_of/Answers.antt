@@ -1,5 +1,5 @@
 use Rattle.std.proofs.Common.{◌<◌, length}
-use Rattle.par_passes.proofs.Giving.{all_numbers}
+use Rattle.par_passes.specs.Laws.Giving.{all_numbers}
 use Rattle.pass_tests.proofs.callers.lowest_of.Goals as goal
 
 pub least_of-requires-clause-callable : goal.least_of-requires-clause-callable

@@ -1,5 +1,5 @@
 use Rattle.std.proofs.Common.{rules, leb, ◌∙◌}
-use Rattle.par_passes.proofs.Calling.{if_ok, places_by}
+use Rattle.par_passes.specs.Laws.Calling.{if_ok, places_by}
 use Rattle.pass_tests.proofs.callers.places_from.Goals as goal
 
 pub returns : goal.returns

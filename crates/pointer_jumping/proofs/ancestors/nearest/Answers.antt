@@ -1,5 +1,5 @@
 use Rattle.std.proofs.Common.{◌≡◌, ℕ, ◌-◌, ◌<◌, ◌^◌, ◌∙◌, false, List, length, map, refl, ap₂, sym, subst, arith}
-use Rattle.par_passes.proofs.Calling.{if_ok}
+use Rattle.par_passes.specs.Laws.Calling.{if_ok}
 use Rattle.pointer_jumping.specs.declared.jump.Jump.{Jump}
 use Rattle.pointer_jumping.specs.Jumps.{StandsBelow, is_open, jump_at, onwards, found_by}
 use Rattle.pointer_jumping.proofs.Jumping.{AreRounds, rounds_none, standing_all, round_more, round_less, found_out}

@@ -1,8 +1,8 @@
 use Rattle.std.proofs.Common.{◌≡◌, ℕ, ◌<◌, length, arith}
 use Rattle.std.specs.List.{range_with_len}
 use Rattle.std.proofs.lemmas.List.FromFn.{length-range_with_len, get_or-range_with_len}
-use Rattle.par_passes.proofs.Calling.{if_ok}
-use Rattle.par_passes.proofs.Giving.{gives_weaker}
+use Rattle.par_passes.specs.Laws.Calling.{if_ok}
+use Rattle.par_passes.specs.Laws.Giving.{gives_weaker}
 use Rattle.pointer_jumping.specs.Jumps.{IsJump}
 use Rattle.pointer_jumping.proofs.Jumping.{jumps_first}
 use Rattle.pointer_jumping.proofs.rounds.first_jumps.Goals as goal

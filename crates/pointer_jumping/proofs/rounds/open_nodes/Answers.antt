@@ -1,5 +1,5 @@
 use Rattle.std.proofs.Common.{◌∙◌, rules}
-use Rattle.par_passes.proofs.Calling.{if_ok, places_by}
+use Rattle.par_passes.specs.Laws.Calling.{if_ok, places_by}
 use Rattle.pointer_jumping.specs.Jumps.{is_open}
 use Rattle.pointer_jumping.specs.declared.jump.Jump.TheVariants.{Root}
 use Rattle.pointer_jumping.proofs.rounds.open_nodes.Goals as goal

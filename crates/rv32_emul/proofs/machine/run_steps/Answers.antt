@@ -1,6 +1,6 @@
 use Rattle.std.proofs.Common.{◌≡◌, ap, sym, ◌∙◌, arith, Ok}
 use Rattle.rv32_emul.specs.Machine.{run}
-use Rattle.rv32_emul.proofs.Runs.{left-went, left-ended}
+use Rattle.rv32_emul.specs.Laws.Runs.{left-went, left-ended}
 use Rattle.rv32_emul.proofs.Zero.{zero-stays}
 use Rattle.rv_isa.specs.Effect.{state}
 use Rattle.rv32_emul.proofs.machine.run_steps.Goals as goal

@@ -1,6 +1,6 @@
 use Rattle.std.proofs.Common.{◌≡◌, ℕ, ◌+◌, ◌≤◌, min, List, length, map, get_or, sym, ap, subst, ◌∙◌, arith}
 use Rattle.std.specs.List.{range_with_len}
-use Rattle.par_passes.proofs.Calling.{if_ok}
+use Rattle.par_passes.specs.Laws.Calling.{if_ok}
 use Rattle.word_monoid.specs.Folds.{prefixes}
 use Rattle.word_monoid.specs.Instances.{count}
 use Rattle.rv_emit.proofs.Bounds.{sums_small}

@@ -1,5 +1,5 @@
 use Rattle.std.proofs.Common.{ℕ, ◌≤◌, subst, ◌∙◌}
-use Rattle.par_passes.proofs.Calling.{if_ok}
+use Rattle.par_passes.specs.Laws.Calling.{if_ok}
 use Rattle.rv_emit.specs.OfColumns.{words_many_of, AreLaidOf}
 use Rattle.rv_emit.proofs.Ready.{laid_by, ready_by}
 use Rattle.rv_emit.proofs.Sized.{few_rows}

@@ -1,4 +1,4 @@
-use Rattle.scan_lookback.proofs.Cutting.{gives_chunk, sum_of_chunk, all_chunk}
+use Rattle.scan_lookback.specs.Laws.Cutting.{gives_chunk, sum_of_chunk, all_chunk}
 use Rattle.scan_lookback.proofs.chunk.chunk_sum.Given as given
 use Rattle.scan_lookback.proofs.chunk.chunk_sum.Goals as goal
 

@@ -2,8 +2,8 @@ use Rattle.std.proofs.Common.{length, get_or, ap, ◌∙◌, arith, sym, subst}
 use Rattle.std.proofs.lemmas.List.FromFn.{length-map-range_with_len, get_or-map-range_with_len}
 use Rattle.word_monoid.specs.Monoid.{IsItem}
 use Rattle.word_monoid.specs.Folds.{prefix_of}
-use Rattle.word_monoid.proofs.Folds.{prefix_item}
-use Rattle.scan_lookback.proofs.Cutting.{piece_near, piece_starts, piece_gives, piece_filled, all_range}
+use Rattle.word_monoid.specs.Laws.Folds.{prefix_item}
+use Rattle.scan_lookback.specs.Laws.Cutting.{piece_near, piece_starts, piece_gives, piece_filled, all_range}
 use Rattle.scan_lookback.proofs.fill.fill_piece.Given as given
 use Rattle.scan_lookback.proofs.fill.fill_piece.Goals as goal
 

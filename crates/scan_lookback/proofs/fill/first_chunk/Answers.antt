@@ -1,4 +1,4 @@
-use Rattle.scan_lookback.proofs.Cutting.{piece_begins}
+use Rattle.scan_lookback.specs.Laws.Cutting.{piece_begins}
 use Rattle.scan_lookback.proofs.fill.first_chunk.Goals as goal
 
 pub returns : goal.returns

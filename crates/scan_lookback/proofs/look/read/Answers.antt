@@ -1,5 +1,5 @@
 use Rattle.std.proofs.Common.{◌≡◌, ◌+◌, ◌*◌, get_or, arith}
-use Rattle.scan_lookback.proofs.Coded.{says_sum, reads_sum, says_prefix, reads_prefix}
+use Rattle.scan_lookback.specs.Laws.Coded.{says_sum, reads_sum, says_prefix, reads_prefix}
 use Rattle.scan_lookback.proofs.look.read.Goals as goal
 
 pub of_word-requires : goal.of_word-requires

@@ -1,7 +1,7 @@
 use Rattle.std.proofs.Common.{ℕ, ◌≤◌, [], ◌∷◌, ◌++◌, max, length, ap, ◌∙◌, subst, rules}
 use Rattle.chunk_seats.specs.Chunks.{chunk_count}
 use Rattle.word_monoid.specs.Folds.{prefix_of, prefixes_from}
-use Rattle.scan_lookback.proofs.Cutting.{piece_small}
+use Rattle.scan_lookback.specs.Laws.Cutting.{piece_small}
 use Rattle.scan_lookback.proofs.Totals.{count_named, whole, starts_as, take_front}
 use Rattle.scan_lookback.proofs.single_pass.scan_named.Goals as goal
 

@@ -1,7 +1,7 @@
 use Rattle.std.proofs.Common.{Some, sym, ap, ◌∙◌, subst, arith}
 use Rattle.std.proofs.lemmas.Option.{slice_get-get_or}
 use Rattle.word_monoid.specs.Monoid.{IsItem}
-use Rattle.scan_lookback.proofs.Cutting.{lifted_more}
+use Rattle.scan_lookback.specs.Laws.Cutting.{lifted_more}
 use Rattle.scan_lookback.proofs.span.fold_slice.Goals as goal
 
 pub loop-x-preserved : goal.loop-x-preserved

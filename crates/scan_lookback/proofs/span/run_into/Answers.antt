@@ -2,7 +2,7 @@ use Rattle.std.proofs.Common.{◌≡◌, length, take, Some, sym, ap, ◌∙◌,
 use Rattle.std.proofs.lemmas.List.{length-set, take_all, take_more_set}
 use Rattle.std.proofs.lemmas.Option.{slice_get-get_or}
 use Rattle.word_monoid.specs.Monoid.{IsItem}
-use Rattle.scan_lookback.proofs.Cutting.{lifted_more, listed_more, listed_all}
+use Rattle.scan_lookback.specs.Laws.Cutting.{lifted_more, listed_more, listed_all}
 use Rattle.scan_lookback.proofs.span.run_into.Goals as goal
 
 pub loop-k-preserved : goal.loop-k-preserved

@@ -3,7 +3,7 @@ use Rattle.std.specs.List.{range_with_len}
 use Rattle.std.proofs.lemmas.List.{append-nil, take_all}
 use Rattle.std.proofs.lemmas.Option.{slice_get-get_or}
 use Rattle.word_monoid.specs.Monoid.{IsItem}
-use Rattle.scan_lookback.proofs.Cutting.{lifted_more, listed_behind}
+use Rattle.scan_lookback.specs.Laws.Cutting.{lifted_more, listed_behind}
 use Rattle.scan_lookback.proofs.span.run_onto.Goals as goal
 
 pub loop-x-init : goal.loop-x-init

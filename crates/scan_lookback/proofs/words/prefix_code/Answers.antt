@@ -1,5 +1,5 @@
 use Rattle.std.proofs.Common.{ℕ, ◌<◌, sym, ◌∙◌, subst}
-use Rattle.scan_lookback.proofs.Coded.{prefix_coded}
+use Rattle.scan_lookback.specs.Laws.Coded.{prefix_coded}
 use Rattle.scan_lookback.proofs.words.prefix_code.Goals as goal
 
 pub word-requires : goal.word-requires

@@ -1,5 +1,5 @@
 use Rattle.std.proofs.Common.{ℕ, ◌<◌, sym, ◌∙◌, subst}
-use Rattle.scan_lookback.proofs.Coded.{sum_item, sum_coded}
+use Rattle.scan_lookback.specs.Laws.Coded.{sum_item, sum_coded}
 use Rattle.scan_lookback.proofs.words.sum_code.Goals as goal
 
 pub word-requires : goal.word-requires

@@ -5,7 +5,7 @@ use Rattle.state_monoid.specs.declared.explore.Origin.{Origin}
 use Rattle.state_monoid.specs.declared.fault.BuildFault.TheVariants.{TooMany}
 use Rattle.std.proofs.lemmas.Result.{err_from_is_err_and}
 use Rattle.state_monoid.specs.Explored.{IsRow, IsNumbered}
-use Rattle.word_monoid.proofs.Folds.{get_below}
+use Rattle.word_monoid.specs.Laws.Folds.{get_below}
 use Rattle.state_monoid.specs.Places.{item_at, value_get}
 use Rattle.state_monoid.proofs.Searching.{reads, same_fault, more_than, numbered_stays, row_more, explored_more}
 use Rattle.state_monoid.proofs.explore.row.Goals as goal

@@ -1,4 +1,4 @@
-use Rattle.state_monoid.proofs.Prefixes.{byte_item}
+use Rattle.state_monoid.specs.Laws.Prefixes.{byte_item}
 use Rattle.state_monoid.proofs.laws.bytes_have_items.Goals as goal
 
 pub returns : goal.returns

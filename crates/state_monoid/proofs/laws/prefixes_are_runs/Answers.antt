@@ -1,6 +1,6 @@
 use Rattle.std.proofs.Common.{◌<◌, arith}
 use Rattle.std.proofs.lemmas.List.Elements.{All-from_get_or}
-use Rattle.state_monoid.proofs.Prefixes.{prefix_function, prefix_state}
+use Rattle.state_monoid.specs.Laws.Prefixes.{prefix_function, prefix_state}
 use Rattle.state_monoid.proofs.laws.prefixes_are_runs.Goals as goal
 
 pub returns-clause-functions : goal.returns-clause-functions

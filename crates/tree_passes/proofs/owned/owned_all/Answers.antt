@@ -1,7 +1,7 @@
 use Rattle.std.proofs.Common.{rules, ◌∙◌}
 use Rattle.source_meaning.specs.declared.kinds.Terminal.TheVariants.{Ident}
 use Rattle.row_laws.specs.Owned.{is_owned}
-use Rattle.par_passes.proofs.Calling.{if_ok, places_by}
+use Rattle.par_passes.specs.Laws.Calling.{if_ok, places_by}
 use Rattle.tree_passes.proofs.owned.owned_all.Goals as goal
 
 pub returns : goal.returns

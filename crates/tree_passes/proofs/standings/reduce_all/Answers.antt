@@ -1,5 +1,5 @@
 use Rattle.std.proofs.Common.{arith}
-use Rattle.par_passes.proofs.Calling.{if_ok}
+use Rattle.par_passes.specs.Laws.Calling.{if_ok}
 use Rattle.row_pieces.specs.Reduced.{reduced}
 use Rattle.tree_passes.specs.Stretches.{pieces_of_stretch}
 use Rattle.tree_passes.proofs.Ranges.{given_lists, given_many, in_range}

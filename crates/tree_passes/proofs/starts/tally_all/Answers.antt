@@ -1,4 +1,4 @@
-use Rattle.par_passes.proofs.Calling.{if_ok}
+use Rattle.par_passes.specs.Laws.Calling.{if_ok}
 use Rattle.std.proofs.Common.{arith}
 use Rattle.tree_passes.specs.Stretches.{tally_of}
 use Rattle.tree_passes.proofs.Ranges.{given_list, given_many, in_range}

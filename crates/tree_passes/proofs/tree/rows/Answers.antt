@@ -1,5 +1,5 @@
 use Rattle.std.proofs.Common.{sym, ◌∙◌}
-use Rattle.par_passes.proofs.Calling.{if_ok}
+use Rattle.par_passes.specs.Laws.Calling.{if_ok}
 use Rattle.source_meaning.specs.Grammar.{leaves, left_parse}
 use Rattle.row_columns.specs.TokensOf.{no_token}
 use Rattle.row_columns.specs.Stretches.{tree_marks}

@@ -1,5 +1,5 @@
 use Rattle.std.proofs.Common.{length}
-use Rattle.par_passes.proofs.Calling.{if_ok}
+use Rattle.par_passes.specs.Laws.Calling.{if_ok}
 use Rattle.tree_passes.proofs.Ranges.{given_at, given_many, in_range}
 use Rattle.tree_passes.proofs.walked.columns_all.Goals as goal
 

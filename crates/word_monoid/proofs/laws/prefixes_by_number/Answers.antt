@@ -1,4 +1,4 @@
-use Rattle.word_monoid.proofs.Folds.{length-prefixes, prefixes_at}
+use Rattle.word_monoid.specs.Laws.Folds.{length-prefixes, prefixes_at}
 use Rattle.word_monoid.proofs.laws.prefixes_by_number.Goals as goal
 
 pub returns-clause-length : goal.returns-clause-length

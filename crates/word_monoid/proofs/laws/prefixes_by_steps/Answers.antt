@@ -1,4 +1,4 @@
-use Rattle.word_monoid.proofs.Folds.{prefix_next}
+use Rattle.word_monoid.specs.Laws.Folds.{prefix_next}
 use Rattle.word_monoid.proofs.laws.prefixes_by_steps.Goals as goal
 
 pub returns-clause-next : goal.returns-clause-next

@@ -4,7 +4,7 @@ use Rattle.chunk_seats.specs.Chunks.{chunk_of}
 use Rattle.std.proofs.lemmas.List.{take-append-drop}
 use Rattle.list_parts.specs.declared.part.Part.{Part}
 use Rattle.list_parts.specs.Parts.{part_items, Chain}
-use Rattle.list_parts.proofs.Chains.{get_snoc, cut_chain, next_chunk, next_rest, last_chunk, items_glued}
+use Rattle.list_parts.specs.Laws.Chains.{get_snoc, cut_chain, next_chunk, next_rest, last_chunk, items_glued}
 use Rattle.list_parts.proofs.part.Part.cut_all.Goals as goal
 
 pub loop-preserved : goal.loop-preserved

@@ -1,7 +1,7 @@
 use Rattle.std.proofs.Common.{[], ◌∷◌, ◌++◌, List, flat_map, ap, subst, ◌∙◌}
 use Rattle.list_parts.specs.declared.part.Part.{Part}
 use Rattle.list_parts.specs.Parts.{part_items, Chain}
-use Rattle.list_parts.proofs.Chains.{last_follows, glue_chain, items_glued}
+use Rattle.list_parts.specs.Laws.Chains.{last_follows, glue_chain, items_glued}
 use Rattle.list_parts.proofs.part.Part.glue_all.Goals as goal
 
 pub glue-whole-requires-clause-neighbours : goal.glue-whole-requires-clause-neighbours

@@ -2,8 +2,8 @@ use Rattle.std.proofs.Common.{◌≡◌, ◌+◌, ◌*◌, length, arith, add-on
 use Rattle.std.specs.List.{range_with_len}
 use Rattle.std.proofs.lemmas.List.FromFn.{length-range_with_len}
 use Rattle.par_passes.specs.Passes.{Gives}
-use Rattle.par_passes.proofs.Together.{if_ok}
-use Rattle.par_passes.proofs.Giving.{numbers_front}
+use Rattle.par_passes.specs.Laws.Together.{if_ok}
+use Rattle.par_passes.specs.Laws.Giving.{numbers_front}
 use Rattle.par_passes.proofs.dealt.ExtendingInTurn.append.Given as given
 use Rattle.par_passes.proofs.dealt.ExtendingInTurn.append.Goals as goal
 

@@ -1,5 +1,5 @@
-use Rattle.par_passes.proofs.Together.{if_ok}
-use Rattle.par_passes.proofs.Marking.{marked_chunk_more}
+use Rattle.par_passes.specs.Laws.Together.{if_ok}
+use Rattle.par_passes.specs.Laws.Marking.{marked_chunk_more}
 use Rattle.par_passes.proofs.marked.KeepingInTurn.append.Goals as goal
 
 pub returns : goal.returns

@@ -1,5 +1,5 @@
 use Rattle.std.specs.List.{range_with_len}
-use Rattle.par_passes.proofs.Together.{if_ok}
+use Rattle.par_passes.specs.Laws.Together.{if_ok}
 use Rattle.par_passes.proofs.Choosing.{choose_chunk_more}
 use Rattle.par_passes.proofs.numbered.ChoosingInTurnU32.append.Goals as goal
 

@@ -1,7 +1,7 @@
 use Rattle.std.proofs.Common.{ℕ, Option, subst, sym, ◌∙◌}
 use Rattle.rv_isa.specs.Effect.{state}
 use Rattle.rv32_emul.specs.Kept.{IsCode}
-use Rattle.rv32_emul.proofs.Runs.{run-went}
+use Rattle.rv32_emul.specs.Laws.Runs.{run-went}
 use Rattle.rv32_emul.proofs.code.Code.run.Goals as goal
 
 pub step-requires-clause-code : goal.step-requires-clause-code

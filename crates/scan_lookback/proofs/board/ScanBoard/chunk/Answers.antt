@@ -1,7 +1,7 @@
 use Rattle.std.proofs.Common.{◌≡◌, ◌<◌, length, ap, ◌∙◌, arith, sym, subst}
 use Rattle.word_monoid.specs.Folds.{prefix_of}
 use Rattle.scan_lookback.specs.Cuts.{chunk_prefixes}
-use Rattle.scan_lookback.proofs.Cutting.{gives_chunk, list_of_chunk, scans_as, all_chunk}
+use Rattle.scan_lookback.specs.Laws.Cutting.{gives_chunk, list_of_chunk, scans_as, all_chunk}
 use Rattle.scan_lookback.proofs.Working.{if_ok}
 use Rattle.scan_lookback.proofs.board.ScanBoard.chunk.Given as given
 use Rattle.scan_lookback.proofs.board.ScanBoard.chunk.Goals as goal

@@ -1,5 +1,5 @@
 use Rattle.std.proofs.Common.{◌≡◌, length, arith, ap, sym, ◌∙◌}
-use Rattle.scan_lookback.proofs.Coded.{length-codes}
+use Rattle.scan_lookback.specs.Laws.Coded.{length-codes}
 use Rattle.scan_lookback.proofs.Posting.{sees_last, says_last, found_shown}
 use Rattle.scan_lookback.proofs.board.ScanBoard.close.Goals as goal
 

@@ -1,6 +1,6 @@
 use Rattle.std.proofs.Common.{◌+◌, sym, subst, arith}
 use Rattle.word_monoid.specs.Monoid.{IsItem}
-use Rattle.scan_lookback.proofs.Coded.{prefix_is_item}
+use Rattle.scan_lookback.specs.Laws.Coded.{prefix_is_item}
 use Rattle.scan_lookback.proofs.board.ScanBoard.known.Goals as goal
 
 pub returns-in-Prefix : goal.returns-in-Prefix

@@ -1,7 +1,7 @@
 use Rattle.std.proofs.Common.{ap, ◌∙◌, sym, subst}
 use Rattle.word_monoid.specs.Monoid.{IsItem}
-use Rattle.word_monoid.proofs.Folds.{prefix_next}
-use Rattle.scan_lookback.proofs.Coded.{sum_item}
+use Rattle.word_monoid.specs.Laws.Folds.{prefix_next}
+use Rattle.scan_lookback.specs.Laws.Coded.{sum_item}
 use Rattle.scan_lookback.specs.Held.{held}
 use Rattle.scan_lookback.specs.Views.{sealing, loading}
 use Rattle.scan_lookback.proofs.Working.{stands_last}

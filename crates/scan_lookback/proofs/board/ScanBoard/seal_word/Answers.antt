@@ -1,5 +1,5 @@
 use Rattle.std.proofs.Common.{◌<◌, length, ap, arith, rules}
-use Rattle.scan_lookback.proofs.Coded.{length-codes}
+use Rattle.scan_lookback.specs.Laws.Coded.{length-codes}
 use Rattle.scan_lookback.proofs.Posting.{seals}
 use Rattle.scan_lookback.proofs.board.ScanBoard.seal_word.Goals as goal
 

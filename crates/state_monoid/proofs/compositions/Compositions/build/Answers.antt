@@ -1,7 +1,7 @@
 use Rattle.std.proofs.Common.{◌≡◌, ◌∙◌, ◌<◌, ℕ, List, [], Vec, Global, length, map, All, sym, subst, arith}
 use Rattle.std.specs.Prelude.{slice_index, slice_index_or}
 use Rattle.std.proofs.lemmas.List.{length-map}
-use Rattle.word_monoid.proofs.Folds.{get_below}
+use Rattle.word_monoid.specs.Laws.Folds.{get_below}
 use Rattle.state_monoid.specs.Automaton.{Automaton}
 use Rattle.state_monoid.specs.Image.{IsNumbering}
 use Rattle.state_monoid.proofs.Searching.{both}
