@@ -10,11 +10,11 @@ use Rattle.row_pieces.specs.Reduced.{reduced}
 use Rattle.row_pieces.specs.Sound.{IsSound, AreSound, rows_of, weights}
 use Rattle.row_pieces.specs.Steps.{AreGoneOver, IsCutOff}
 use Rattle.row_pieces.specs.Stretches.{pieces_in, level_behind, kids_in, reads_in}
-use Rattle.row_pieces.proofs.Walks.{acts_more, closes_more, all_made}
-use Rattle.row_pieces.proofs.Reducing.{reduced_acts}
-use Rattle.row_pieces.proofs.Weighed.{acts_sound, acts_weigh, reduced_sound, reduced_weigh, stretch_plain}
-use Rattle.row_pieces.proofs.Together.{kids_on, parse_level, parse_whole, reads_on, stretches_on}
-use Rattle.row_pieces.proofs.Untouched.{apart_rows}
+use Rattle.row_pieces.specs.Laws.Walks.{acts_more, closes_more, all_made}
+use Rattle.row_pieces.specs.Laws.Reducing.{reduced_acts}
+use Rattle.row_pieces.specs.Laws.Weighed.{acts_sound, acts_weigh, reduced_sound, reduced_weigh, stretch_plain}
+use Rattle.row_pieces.specs.Laws.Together.{kids_on, parse_level, parse_whole, reads_on, stretches_on}
+use Rattle.row_pieces.specs.Laws.Untouched.{apart_rows}
 
 -- ---- one stretch
 pub stretch_left : (numbers : List ℕ) (count place level read : ℕ) (xs : List Piece) → xs ≡ reduced (pieces_in numbers count place level read) → AreSound xs × (weights xs ≤ count)

@@ -1,10 +1,2 @@
-pub mod Walks
-pub mod Reducing
-pub mod LeftAlone
-pub mod Weighed
-pub mod Together
-pub mod TableOf
-pub mod Stepping
-pub mod Untouched
 pub mod Upper
 pub mod Joining

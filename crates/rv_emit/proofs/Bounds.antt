@@ -7,7 +7,7 @@ use Rattle.std.proofs.lemmas.List.FromFn.{length-map-range_with_len, get_or-map-
 use Rattle.word_monoid.specs.Folds.{prefixes}
 use Rattle.word_monoid.specs.Laws.Folds.{length-prefixes}
 use Rattle.word_monoid.specs.Instances.{count}
-use Rattle.rv_select.proofs.Laid.{prefix_first, prefix_step}
+use Rattle.rv_select.specs.Laws.Laid.{prefix_first, prefix_step}
 use Rattle.rv_select.specs.Columns.{ProgramColumns}
 use Rattle.rv_emit.specs.OfColumns.{rows_of, size_of, sums_of}
 

@@ -15,9 +15,9 @@ use Rattle.row_rules.specs.Visible.{row_at}
 use Rattle.code_rules.specs.PieceRules.{is_operator}
 use Rattle.rv_select.specs.Columns.{ProgramColumns}
 use Rattle.rv_select.specs.Layout as layout
-use Rattle.rv_select.proofs.OfProgram.{place_is, parent_is}
-use Rattle.rv_select.proofs.Laid.{prefix_first, prefix_step, rows_many, above_is, begin_low}
-use Rattle.rv_select.proofs.Kept.{passing, lengths, fit}
+use Rattle.rv_select.specs.Laws.OfProgram.{place_is, parent_is}
+use Rattle.rv_select.specs.Laws.Laid.{prefix_first, prefix_step, rows_many, above_is, begin_low}
+use Rattle.rv_select.specs.Laws.Kept.{passing, lengths, fit}
 use Rattle.rv_emit.specs.OfColumns.{rows_of, child_by, child_of, kept_places_of, kept_values_of, AreChildren, AreColumnsOf}
 use Rattle.rv_emit.proofs.Lows.{second_told, start_told}
 use Rattle.rv_emit.proofs.Whole.{parents_many}

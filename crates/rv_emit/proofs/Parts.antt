@@ -11,7 +11,7 @@ use Rattle.rv_code.specs.Code.{words}
 use Rattle.source_meaning.specs.Ast.{Program}
 use Rattle.rv_select.specs.Columns.{ProgramColumns}
 use Rattle.rv_select.specs.declared.referred.Places.{Places}
-use Rattle.rv_select.proofs.InReach.{words_good}
+use Rattle.rv_select.specs.Laws.InReach.{words_good}
 use Rattle.rv_emit.specs.OfColumns.{rows_of, head_of, piece_of, row_words, part_of, AreAccepted, AreLaidOf}
 
 shifted : {Y : Type 0} (f : ℕ → List Y) (a n : ℕ) → flat_map f (range_with_len (a + 1) n) ≡ flat_map (λ c. f (suc c)) (range_with_len a n)

@@ -5,7 +5,7 @@ use Rattle.source_meaning.specs.Rows.{post}
 use Rattle.ast_rows.specs.NodeRows.{lows_of, parent_numbers}
 use Rattle.code_rules.specs.Pieces.{places}
 use Rattle.rv_select.specs.Columns.{ProgramColumns}
-use Rattle.rv_select.proofs.InReach.{ready}
+use Rattle.rv_select.specs.Laws.InReach.{ready}
 use Rattle.rv_select.specs.Accepted.{IsReady}
 use Rattle.rv_emit.specs.OfColumns.{rows_of, child_of, words_many_of, AreAccepted, AreLaidOf}
 use Rattle.rv_emit.proofs.Children.{children_told}

@@ -24,8 +24,8 @@ use Rattle.rv_select.specs.Columns.{ProgramColumns}
 use Rattle.rv_select.specs.Columns.{known_in}
 use Rattle.rv_select.specs.Knowns.{known_of}
 use Rattle.rv_select.specs.Layout.{place_in}
-use Rattle.rv_select.proofs.InReach.{there}
-use Rattle.rv_select.proofs.Laid.{known_at, place_first, place_next, rows_many}
+use Rattle.rv_select.specs.Laws.InReach.{there}
+use Rattle.rv_select.specs.Laws.Laid.{known_at, place_first, place_next, rows_many}
 use Rattle.rv_emit.specs.OfColumns.{rows_of, size_of, sums_of, head_size_of, words_many_of, AreAccepted}
 
 -- lists of the same length and the same values

@@ -29,8 +29,8 @@ use Rattle.rv_select.specs.Knowns.{frame_of}
 use Rattle.rv_select.specs.Columns.{ProgramColumns}
 use Rattle.rv_select.specs.Accepted.{IsAccepted}
 use Rattle.rv_select.specs.Functions.{function_numbers, function_rows}
-use Rattle.rv_select.proofs.Functions.{numbers_are, ends_are, ends_many}
-use Rattle.rv_select.proofs.OfProgram.{get_map, number_le, frame_get}
+use Rattle.rv_select.specs.Laws.Functions.{numbers_are, ends_are, ends_many}
+use Rattle.rv_select.specs.Laws.OfProgram.{get_map, number_le, frame_get}
 use Rattle.rv_emit.specs.Counted.{narrowed}
 use Rattle.rv_emit.specs.Meanings.{meant_in, number_at}
 use Rattle.rv_emit.specs.Compilable.{IsCompilable}

@@ -10,8 +10,8 @@ use Rattle.row_pieces.specs.Pieces.{last_behind, no_row}
 use Rattle.row_columns.specs.Numbers.{IsParseOf}
 use Rattle.row_columns.specs.RowFaults.{least_in}
 use Rattle.row_columns.specs.Stretches.{AreStretch}
-use Rattle.row_columns.proofs.Joined.{stretches_join}
-use Rattle.row_columns.proofs.RowFaults.{least_joined}
+use Rattle.row_columns.specs.Laws.Joined.{stretches_join}
+use Rattle.row_columns.specs.Laws.RowFaults.{least_joined}
 use Rattle.row_kin.specs.Alone.{ties_alone}
 use Rattle.row_kin.specs.declared.stretches.Ties.{Ties}
 use Rattle.tree_passes.specs.Kin.{AreTies}

@@ -19,9 +19,9 @@ use Rattle.row_pieces.specs.Sound.{AreSingle}
 use Rattle.row_pieces.specs.Stretches.{pieces_in}
 use Rattle.row_pieces.specs.declared.piece.Piece.{Piece}
 use Rattle.row_pieces.specs.declared.piece.Piece.TheVariants.{Cut}
-use Rattle.row_pieces.proofs.Walks.{all_made}
-use Rattle.row_pieces.proofs.Together.{parse_whole}
-use Rattle.row_pieces.proofs.Weighed.{acts_weigh, counts, stretch_plain, weights_more}
+use Rattle.row_pieces.specs.Laws.Walks.{all_made}
+use Rattle.row_pieces.specs.Laws.Together.{parse_whole}
+use Rattle.row_pieces.specs.Laws.Weighed.{acts_weigh, counts, stretch_plain, weights_more}
 use Rattle.row_columns.specs.TokensOf.{no_token}
 use Rattle.row_columns.specs.Stretches.{AreRowColumns, AreSmall, IsSmall, tree_marks}
 use Rattle.tree_passes.specs.Columns.{AreColumns, numbers_of}

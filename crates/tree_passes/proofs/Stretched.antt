@@ -15,12 +15,12 @@ use Rattle.row_pieces.specs.Stretches.{kids_in, level_behind, pieces_in, reads_i
 use Rattle.row_pieces.specs.declared.piece.Piece.{Piece}
 use Rattle.row_pieces.specs.declared.piece.Piece.TheVariants.{Cut}
 use Rattle.row_pieces.specs.declared.tally.Tally.{Tally}
-use Rattle.row_pieces.proofs.Walks.{acts_more, all_made, closes_more}
-use Rattle.row_pieces.proofs.Together.{kids_join, parse_level, parse_whole, reads_join, stretches_join}
-use Rattle.row_pieces.proofs.Weighed.{acts_sound, acts_weigh, counts, lasts, stretch_plain, weights_more}
-use Rattle.row_pieces.proofs.Stepping.{kids_few, levels_few, reads_few}
-use Rattle.row_pieces.proofs.Reducing.{reduced_acts}
-use Rattle.row_pieces.proofs.Untouched.{apart_rows}
+use Rattle.row_pieces.specs.Laws.Walks.{acts_more, all_made, closes_more}
+use Rattle.row_pieces.specs.Laws.Together.{kids_join, parse_level, parse_whole, reads_join, stretches_join}
+use Rattle.row_pieces.specs.Laws.Weighed.{acts_sound, acts_weigh, counts, lasts, stretch_plain, weights_more}
+use Rattle.row_pieces.specs.Laws.Stepping.{kids_few, levels_few, reads_few}
+use Rattle.row_pieces.specs.Laws.Reducing.{reduced_acts}
+use Rattle.row_pieces.specs.Laws.Untouched.{apart_rows}
 use Rattle.tree_passes.specs.Stretches.{IsCut, AreTallies, IsHanded, acts_of_stretch, pieces_of_stretch, rows_of_stretch, standing_at, standing_before, tally_of}
 use Rattle.tree_passes.proofs.LaidRows.{single_more}
 use Rattle.tree_passes.proofs.Ranges.{flat_next, value_at}

@@ -7,7 +7,7 @@ use Rattle.source_meaning.specs.Lexemes.{tokens}
 use Rattle.source_meaning.specs.Grammar.{Prog, Tree, leaves, left_parse, number_of}
 use Rattle.ast_rows.specs.TokenRows.{TokenRow, row_of}
 use Rattle.row_laws.specs.Laws.Opened.{parse_short}
-use Rattle.row_columns.proofs.TokenFacts.{tokens_few}
+use Rattle.row_columns.specs.Laws.TokenFacts.{tokens_few}
 use Rattle.row_columns.specs.Stretches.{AreRowColumns, tree_marks}
 use Rattle.tree_passes.specs.TreeColumns.{IsParseOf}
 use Rattle.tree_passes.proofs.LaidRows.{kinds_many, marks_few}

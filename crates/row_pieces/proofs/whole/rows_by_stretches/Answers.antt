@@ -1,6 +1,6 @@
 use Rattle.std.proofs.Common.{suc, ◌-◌, ◌≤◌, ap, ◌∙◌, arith}
 use Rattle.row_pieces.specs.declared.tally.Tally.{Tally}
-use Rattle.row_pieces.proofs.Stepping.{kids_few, reads_few}
+use Rattle.row_pieces.specs.Laws.Stepping.{kids_few, reads_few}
 use Rattle.row_pieces.proofs.Joining.{gone_all, gone_more, kids_more, reads_more, stands_more}
 use Rattle.row_pieces.proofs.whole.rows_by_stretches.Goals as goal
 

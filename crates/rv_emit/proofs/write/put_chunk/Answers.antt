@@ -1,7 +1,7 @@
 use Rattle.std.proofs.Common.{◌≡◌, ℕ, ◌+◌, ◌-◌, ◌*◌, ◌++◌, min, List, length, sym, ap, ◌∙◌, arith}
 use Rattle.std.specs.List.{range_with_len}
 use Rattle.chunk_seats.specs.Chunks.{chunk_of}
-use Rattle.rv_select.proofs.Unrolls.{on_more}
+use Rattle.rv_select.specs.Laws.Unrolls.{on_more}
 use Rattle.par_passes.specs.Laws.Marking.{range_chunk}
 use Rattle.rv_emit.specs.OfColumns.{rows_of, row_words}
 use Rattle.rv_emit.proofs.write.put_chunk.Goals as goal

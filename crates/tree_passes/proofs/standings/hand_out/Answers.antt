@@ -4,7 +4,7 @@ use Rattle.row_pieces.specs.Pieces.{Standing, acts}
 use Rattle.row_pieces.specs.Reduced.{reduced}
 use Rattle.row_pieces.specs.Sound.{AreSound, IsSound, rows_of, weights}
 use Rattle.row_pieces.specs.Steps.{IsCutOff}
-use Rattle.row_pieces.proofs.Weighed.{reduced_sound, reduced_weigh}
+use Rattle.row_pieces.specs.Laws.Weighed.{reduced_sound, reduced_weigh}
 use Rattle.list_cuts.specs.Cuts.{start_of}
 use Rattle.tree_passes.specs.Stretches.{IsHanded, nowhere, pieces_of_stretch, standing_before}
 use Rattle.tree_passes.proofs.Ranges.{each_next, item_there}

@@ -2,7 +2,7 @@ use Rattle.std.proofs.Common.{rules, length, sym, ◌∙◌, subst}
 use Rattle.list_cuts.specs.Cuts.{AreCuts}
 use Rattle.row_pieces.specs.Pieces.{no_row}
 use Rattle.row_columns.specs.TokensOf.{no_token}
-use Rattle.row_columns.proofs.Wholes.{columns_whole}
+use Rattle.row_columns.specs.Laws.Wholes.{columns_whole}
 use Rattle.tree_passes.proofs.Ranges.{if_all}
 use Rattle.tree_passes.proofs.TreeRows.{kinds_few, numbers_few}
 use Rattle.tree_passes.proofs.tree.tree_columns.Goals as goal

@@ -14,7 +14,8 @@ pieces_few : (taken cs : List ℕ) → length (pieces_from taken cs) ≤ suc (le
 pieces_few taken [] = omega arith
 pieces_few taken (c ∷ cs) = by (is_lexeme (taken ++ c ∷ [])) (pieces_few (taken ++ c ∷ []) cs) (pieces_few (c ∷ []) cs)
   where
-    by : (b : Bool) → length (pieces_from (taken ++ c ∷ []) cs) ≤ suc (length cs) → length (pieces_from (c ∷ []) cs) ≤ suc (length cs) → length {A = List ℕ} (elim b [ true ↦ pieces_from (taken ++ c ∷ []) cs | false ↦ taken ∷ pieces_from (c ∷ []) cs ]) ≤ suc (suc (length cs))
+    by : (b : Bool) → length (pieces_from (taken ++ c ∷ []) cs) ≤ suc (length cs) → length (pieces_from (c ∷ []) cs) ≤ suc (length cs)
+        → length {A = List ℕ} (elim b [ true ↦ pieces_from (taken ++ c ∷ []) cs | false ↦ taken ∷ pieces_from (c ∷ []) cs ]) ≤ suc (suc (length cs))
     by true x y = omega arith
     by false x y = omega arith
 
@@ -34,7 +35,9 @@ from_few : (n s : ℕ) (ls : List (List ℕ)) → length (tokens_from n s ls) �
 from_few n s [] = omega arith
 from_few n s (l ∷ ls) = by (terminal_of l) (from_few n (s + length l) ls) (from_few (n + 1) (s + length l) ls)
   where
-    by : (o : Option Terminal) → length (tokens_from n (s + length l) ls) ≤ length ls → length (tokens_from (n + 1) (s + length l) ls) ≤ length ls → length {A = Token} (elim o [ None ↦ tokens_from n (s + length l) ls | Some t ↦ record { number = n; start = s; terminal = t; lexeme = l } ∷ tokens_from (n + 1) (s + length l) ls ]) ≤ suc (length ls)
+    by : (o : Option Terminal) → length (tokens_from n (s + length l) ls) ≤ length ls → length (tokens_from (n + 1) (s + length l) ls) ≤ length ls
+        → length {A = Token} (elim o [ None ↦ tokens_from n (s + length l) ls | Some t ↦ record { number = n; start = s; terminal = t; lexeme = l }
+        ∷ tokens_from (n + 1) (s + length l) ls ]) ≤ suc (length ls)
     by None x y = omega arith
     by (Some t) x y = omega arith
 
@@ -76,7 +79,8 @@ never_in (s ∷ ss) l h e = by (bytes_eq s.0 l) (never_in ss l (both_right (is_o
     by true f g = other_not s.1 (both_left (is_other s.1) (no_digits ss) h) g
     by false f g = f g
 
-number_by : (k : Option Terminal) (i n : Bool) (m : Option Terminal) → (k ≡ Some Digits → ⊥) → (m ≡ Some Digits → ⊥) → or_else k (or_else (if i then Some Ident else None) (or_else (if n then Some Digits else None) m)) ≡ Some Digits → n ≡ true
+number_by : (k : Option Terminal) (i n : Bool) (m : Option Terminal) → (k ≡ Some Digits → ⊥) → (m ≡ Some Digits → ⊥)
+    → or_else k (or_else (if i then Some Ident else None) (or_else (if n then Some Digits else None) m)) ≡ Some Digits → n ≡ true
 number_by (Some t) i n m f g e = absurd (f e)
 number_by None true n m f g e = absurd (cc)
 number_by None false true m f g e = refl
@@ -100,7 +104,8 @@ each_from : (n s top : ℕ) (ls : List (List ℕ)) → n + length ls ≤ top →
 each_from n s top [] h e = tt
 each_from n s top (l ∷ ls) h e = by (terminal_of l) refl (each_from n (s + length l) top ls (omega arith)) (each_from (n + 1) (s + length l) top ls (omega arith)) e
   where
-    by : (o : Option Terminal) → terminal_of l ≡ o → (find is_large (tokens_from n (s + length l) ls) ≡ None → Each top (tokens_from n (s + length l) ls)) → (find is_large (tokens_from (n + 1) (s + length l) ls) ≡ None → Each top (tokens_from (n + 1) (s + length l) ls)) →
+    by : (o : Option Terminal) → terminal_of l ≡ o → (find is_large (tokens_from n (s + length l) ls) ≡ None → Each top (tokens_from n (s + length l) ls))
+        → (find is_large (tokens_from (n + 1) (s + length l) ls) ≡ None → Each top (tokens_from (n + 1) (s + length l) ls)) →
         find is_large (elim o [ None ↦ tokens_from n (s + length l) ls | Some t ↦ record { number = n; start = s; terminal = t; lexeme = l } ∷ tokens_from (n + 1) (s + length l) ls ]) ≡ None → Each top (elim o [ None ↦ tokens_from n (s + length l) ls | Some t ↦ record { number = n; start = s; terminal = t; lexeme = l } ∷ tokens_from (n + 1) (s + length l) ls ])
     by None o x y g = x g
     by (Some t) o x y g =
@@ -110,7 +115,8 @@ each_from n s top (l ∷ ls) h e = by (terminal_of l) refl (each_from n (s + len
 none_large : (text : List ℕ) → lexical_fault text ≡ None → find is_large (tokens text) ≡ None
 none_large text h = by (find is_large (tokens text)) h
   where
-    by : (o : Option Token) → ◌≡◌ {A = Option (ℕ × ℕ)} (elim o [ Some t ↦ Some (102, t.start) | None ↦ if nat_lt (lexemes_end text) (length text) then Some (101, lexemes_end text) else None ]) None → o ≡ None
+    by : (o : Option Token) → ◌≡◌ {A = Option (ℕ × ℕ)} (elim o [ Some t ↦ Some (102, t.start) | None ↦ if nat_lt (lexemes_end text) (length text)
+        then Some (101, lexemes_end text) else None ]) None → o ≡ None
     by (Some t) e = absurd (cc)
     by None e = refl
 
