@@ -66,6 +66,7 @@ impl<M: WordMonoid + Drop> Core<M> {
     pub fn know_sound(&self)
         ensures { IsKept (M.ops self.now.monoid) self.now.sums self.now.seats self.now.state }
     {
+        // Whoever reads the state has its invariant.
         let _ = &self.state;
     }
 

@@ -21,5 +21,6 @@ pub fn every_schedule<M: WordMonoid>(monoid: &M)
     ensures finishes { (sums : List M.Item) (seats : ℕ) (events : List Event) → 0 < seats → IsTrue (is_orderly_from_start (M.ops monoid.now) sums seats events)
         → FinishesAll (length sums) seats (after (M.ops monoid.now) sums seats events) }
 {
+    // The contract alone speaks of it.
     let _ = monoid;
 }

@@ -33,6 +33,7 @@ pub(crate) fn may<M: WordMonoid>(
 ) -> bool
     ensures { result ≡ is_lawful (M.ops monoid.now) sums.now state.now event }
 {
+    // The contract alone speaks of it.
     let _ = monoid;
     let chunks = sums.len() as u64;
     match event {

@@ -64,6 +64,7 @@ impl Lift<u64, u64> for One {
     ghost lifted = { λ _ _. 1 };
 
     fn lift(&self, x: u64) -> u64 {
+        // Each item counts one.
         let _ = x;
         1
     }

@@ -29,6 +29,7 @@ fn before_one<N: Chunks<u64>, L: Ledger>(
     let fold = |unseen: Unseen<'_>| -> u64
         ensures { result ≡ 4 }
     {
+        // The contract alone speaks of it.
         let _ = unseen;
         4
     };

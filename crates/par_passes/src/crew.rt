@@ -59,6 +59,7 @@ fn merge<B: Drop, F: Fn(u64) -> Result<B, AllocError>>(
     requires two { Makes claims.now.chunks (F.post make.now) claims.now.board half two }
     ensures { IfOk result (λ r. Makes claims.now.chunks (F.post make.now) claims.now.board (rest + half) r) }
 {
+    // The contract alone speaks of these.
     let _ = make;
     let _ = (rest, half);
     let Made { mut mine, mut all } = one;
@@ -98,6 +99,7 @@ impl<C: Crew, B: Drop + Send, F: Fn(u64) -> Result<B, AllocError> + Sync> Task
         IfOk made (Makes task.claims.now.chunks (F.post task.make.now) task.claims.now.board workers) };
 
     fn split(&self, mine: &mut Seat, rest: u32, half: u32) -> Seat {
+        // The contract alone speaks of it.
         let _ = rest;
         self.claims.split(mine, half)
     }

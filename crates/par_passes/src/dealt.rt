@@ -105,6 +105,7 @@ impl<U: Copy + Send + Sync, F: Fn(usize) -> U + Sync, N: Goods<Part<U>> + Send +
         × ((mine.view.share ≡ 0) × (mine.hand ≡ None)) };
 
     fn split(&self, mine: &mut Seat<Part<U>>, rest: u32, half: u32) -> Seat<Part<U>> {
+        // The contract alone speaks of it.
         let _ = rest;
         self.board.split(mine, half)
     }
@@ -117,6 +118,7 @@ impl<U: Copy + Send + Sync, F: Fn(usize) -> U + Sync, N: Goods<Part<U>> + Send +
     }
 
     fn merge(&self, rest: u32, half: u32, one: Seat<Part<U>>, two: Seat<Part<U>>) -> Seat<Part<U>> {
+        // The contract alone speaks of these.
         let _ = (rest, half);
         let mut one = one;
         self.board.join(&mut one, two);

@@ -92,6 +92,7 @@ fn merge<K: Lifted<usize>>(
     requires two { IsDone size (map K.code_of (range_with_len 0 len)) word.now.board claims.now.board half two }
     ensures { IsDone size (map K.code_of (range_with_len 0 len)) word.now.board claims.now.board (rest + half) result }
 {
+    // The contract alone speaks of these.
     let _ = (size, len, rest, half);
     let Team { mut seat, mut mine } = one;
     let Team {
@@ -138,6 +139,7 @@ impl<C: Crew, F: Fn(usize) -> u64 + Sync, K: Lifted<usize> + Send + Sync> Task
         IsDone task.size (map K.code_of (range_with_len 0 task.len)) task.word.now.board task.claims.now.board workers team };
 
     fn split(&self, team: &mut Team, rest: u32, half: u32) -> Team {
+        // The contract alone speaks of it.
         let _ = rest;
         Team {
             seat: self.word.split(&mut team.seat, half),

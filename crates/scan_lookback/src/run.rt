@@ -28,6 +28,7 @@ fn merge<'a, M: WordMonoid, N: Chunks<M::Item>>(
     requires two { Makes (M.ops board.now.monoid) N.sums board.now.board claims.now.board half two }
     ensures { IfOk result (λ r. Makes (M.ops board.now.monoid) N.sums board.now.board claims.now.board (rest + half) r) }
 {
+    // The contract alone speaks of these.
     let _ = (rest, half);
     let Made {
         mut seat,
@@ -84,6 +85,7 @@ impl<
     ghost ends = { λ task workers made. IfOk made (Makes (M.ops task.board.now.monoid) N.sums task.board.now.board task.claims.now.board workers) };
 
     fn split(&self, hands: &mut Hands, rest: u32, half: u32) -> Hands {
+        // The contract alone speaks of it.
         let _ = rest;
         Hands {
             seat: self.board.split(&mut hands.seat, half),

@@ -23,6 +23,7 @@ use worker_teams::count_chunks;
 fn know_laws<M: WordMonoid>(monoid: &M)
     ensures { IsMonoid (M.ops monoid.now) }
 {
+    // The contract alone speaks of it.
     let _ = monoid;
 }
 
@@ -39,6 +40,7 @@ fn total<T: Copy, M: WordMonoid, N: Chunks<M::Item>, F: Fn(T) -> M::Item>(
     requires out { out.now ≡ prefixes_from (M.ops monoid.now) N.items 0 (length N.items) }
     ensures { result ≡ fold_of (M.ops monoid.now) N.items }
 {
+    // The contract alone speaks of it.
     let _ = size;
     let len = items.len();
     if len == 0 {

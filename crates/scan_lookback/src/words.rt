@@ -14,6 +14,7 @@ pub(crate) fn sum_code<M: WordMonoid, N: Chunks<M::Item>>(monoid: &M, c: u64, su
     ensures small { result < 2 ^ 62 }
     ensures code { result ≡ slice_index N.sum_codes c }
 {
+    // The contract alone speaks of it.
     let _ = c;
     monoid.word(sum)
 }
@@ -30,6 +31,7 @@ pub(crate) fn prefix_code<M: WordMonoid, N: Chunks<M::Item>>(
     ensures small { result < 2 ^ 62 }
     ensures code { result ≡ slice_index N.prefix_codes c }
 {
+    // The contract alone speaks of it.
     let _ = c;
     monoid.word(prefix)
 }

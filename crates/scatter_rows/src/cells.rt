@@ -124,6 +124,7 @@ impl<N: Pairs> Cells<N> {
         requires small { value < 2 ^ 64 - 1 }
         ensures { seat.new ≡ held seat.old.board (putting seat.old.view i) }
     {
+        // The contract alone speaks of it.
         let _ = i;
         self.table
             .shared

@@ -30,6 +30,7 @@ fn merge<N: Pairs>(
     requires two { IsDone count size cells.now.board claims.now.board half two }
     ensures { IsDone count size cells.now.board claims.now.board (rest + half) result }
 {
+    // The contract alone speaks of these.
     let _ = (count, size, rest, half);
     let Team { mut seat, mut mine } = one;
     let Team {
@@ -74,6 +75,7 @@ impl<N: Pairs + Send + Sync, G: Gate> Task for Putting<'_, N, G> {
     ghost ends = { λ task workers team. (0 < task.cells.now.board.words) × IsDone (length task.places.now) task.plan.now.chunk task.cells.now.board task.claims.now.board workers team };
 
     fn split(&self, team: &mut Team, rest: u32, half: u32) -> Team {
+        // The contract alone speaks of it.
         let _ = rest;
         Team {
             seat: self.cells.split(&mut team.seat, half),

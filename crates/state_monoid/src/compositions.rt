@@ -128,6 +128,7 @@ impl WordMonoid for Compositions {
     ghost ops = { composition };
 
     fn unit(&self) -> u16 {
+        // Whoever reads the functions has their invariant.
         let _ = &self.functions;
         0
     }

@@ -31,6 +31,7 @@ pub fn few_or_too_many()
 pub fn bytes_have_items(compositions: &Compositions)
     ensures { (b : ℕ) → b < 256 → IsItem (composition compositions.now) (byte_number compositions.now b) }
 {
+    // The contract alone speaks of it.
     let _ = compositions;
 }
 
@@ -42,6 +43,7 @@ pub fn prefixes_are_runs(compositions: &Compositions, bytes: &[u8])
     ensures states { (i c s : ℕ) → slice_get (prefixes (composition compositions.now) (map (byte_number compositions.now) bytes.now)) i ≡ Some c
         → s < compositions.now.automaton.states → slice_index (function_of compositions.now c) s ≡ run compositions.now.automaton s (take i bytes.now) }
 {
+    // The contract alone speaks of these.
     let _ = compositions;
     let _ = bytes;
 }

@@ -127,6 +127,7 @@ pub(crate) fn join_found(
     ensures ties { IfOk result (λ v. AreTies (ties_by_stretches columns.now.lows.items ends.now) v.kin.parents.items v.kin.lows.items v.kin.places.items v.kin.counts.items) }
     ensures least { IfOk result (λ v. v.least ≡ least_in columns.now.kinds.items columns.now.lows.items columns.now.tokens.items 0 (length columns.now.kinds.items)) }
 {
+    // The contract alone speaks of these.
     let _ = columns;
     let _ = ends;
     let mut all = Found {

@@ -68,6 +68,7 @@ pub(crate) fn hand_out(
     requires lists { AreReduced parse.numbers.now parse.ends.now (map (λ l. l.items) lists.now) }
     ensures { IfOk result (λ v. AreHanded parse.entry.numbers.now parse.entry.ends.now v.items) }
 {
+    // The contract alone speaks of it.
     let _ = parse.numbers;
     let mut handed = Vec::with_capacity(alloc, lists.len() + 1)?;
     let mut standing = Standing::new(alloc);

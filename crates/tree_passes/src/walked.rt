@@ -128,6 +128,7 @@ pub(crate) fn join_columns(
     ensures { IfOk result (λ v. (r : Tree Prog) → IsParseOf source.now.text.now source.now.numbers.now r
         → AreStretch (left_parse r) (leaves r) 0 no_row (made_by (left_parse r)) v.kinds.items v.lows.items v.tokens.items) }
 {
+    // The contract alone speaks of these.
     let _ = source;
     let _ = ends;
     let mut all = Columns {

@@ -47,5 +47,6 @@ pub fn counts_are_exact(counts: &[u64])
     requires { sum counts.now < 2 ^ 62 }
     ensures { fold_of count counts.now ≡ sum counts.now }
 {
+    // The contract alone speaks of it.
     let _ = counts;
 }

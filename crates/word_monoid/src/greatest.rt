@@ -47,5 +47,6 @@ pub fn greatest_is_there(numbers: &[u64])
     ensures bound { All (λ x. x ≤ fold_of greatest numbers.now) numbers.now }
     ensures met { (fold_of greatest numbers.now ≡ 0) ⊎ Contains numbers.now (fold_of greatest numbers.now) }
 {
+    // The contract alone speaks of it.
     let _ = numbers;
 }

@@ -10,6 +10,7 @@ pub fn prefixes_by_number<M: WordMonoid>(monoid: &M, items: &[M::Item], i: usize
     ensures length { length (prefixes (M.ops monoid.now) items.now) ≡ length items.now + 1 }
     ensures each { i ≤ length items.now → slice_get (prefixes (M.ops monoid.now) items.now) i ≡ Some (prefix_of (M.ops monoid.now) items.now i) }
 {
+    // The contract alone speaks of these.
     let _ = monoid;
     let _ = items;
     let _ = i;
@@ -20,6 +21,7 @@ pub fn prefixes_by_steps<M: WordMonoid>(monoid: &M, items: &[M::Item], i: usize)
     ensures first { prefix_of (M.ops monoid.now) items.now 0 ≡ (M.ops monoid.now).unit }
     ensures next { (x : M.Item) → slice_get items.now i ≡ Some x → prefix_of (M.ops monoid.now) items.now (i + 1) ≡ (M.ops monoid.now).join (prefix_of (M.ops monoid.now) items.now i) x }
 {
+    // The contract alone speaks of these.
     let _ = monoid;
     let _ = items;
     let _ = i;

@@ -65,5 +65,6 @@ pub fn signed_sums_are_exact(numbers: &[i64])
     requires { IsTrue (is_signed (int_sum numbers.now)) }
     ensures { fold_of signed numbers.now ≡ int_sum numbers.now }
 {
+    // The contract alone speaks of it.
     let _ = numbers;
 }
