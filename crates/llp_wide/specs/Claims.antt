@@ -39,13 +39,13 @@ IsStopOf nullable first b groups n claim = (spots : List Spot) × (slice_get gro
 abbrev pub IsFirstClaim : List Bool → List Bool → ℕ → Grammar → List (List Spot) → Claim → Type 0
 IsFirstClaim nullable first b g groups claim =
     (IsStopIn nullable first b (first_stack g) begin_mark (Terminal begin_mark) claim
-        ⊎ IsStopIn nullable first b (Terminal (end_mark g) ∷ []) begin_mark (Nonterminal 0) claim) ⊎ SomeBelow (length groups) (IsStopOf nullable first b groups) claim
+    ⊎ IsStopIn nullable first b (Terminal (end_mark g) ∷ []) begin_mark (Nonterminal 0) claim) ⊎ SomeBelow (length groups) (IsStopOf nullable first b groups) claim
 
 -- what stands behind the place in its right side vanishes, and its owner has the string
 abbrev pub IsPassAt : List Bool → Claim → Spot → Claim → Type 0
 IsPassAt nullable owner spot claim =
     (owner.symbol ≡ Nonterminal spot.owner.nonterminal) × (owner.before ≡ spot.owner.before) × (all_vanish nullable spot.after ≡ true)
-        × (claim ≡ record { before = spot.before; symbol = spot.symbol; stack = spot.after ++ owner.stack })
+    × (claim ≡ record { before = spot.before; symbol = spot.symbol; stack = spot.after ++ owner.stack })
 
 -- some place does so
 abbrev pub IsPassOf : List Bool → Claim → List Spot → Claim → Type 0

@@ -70,4 +70,4 @@ pub record AreSpots (g : Grammar) (groups : List (List Spot)) : Type 0 where
   pub complete : (z0 owner z : ℕ) (s : Symbol) (after : List Symbol) → IsWidePlace g z0 owner z s after
       → IsKept g groups (record { before = z; symbol = s; owner = record { before = z0; nonterminal = owner }; after = after })
       ⊎ (IsKept g groups (record { before = z; symbol = s; owner = record { before = any_before g; nonterminal = owner }; after = after })
-          × IsKept g groups (record { before = any_before g; symbol = Nonterminal owner; owner = record { before = z0; nonterminal = owner }; after = [] }))
+      × IsKept g groups (record { before = any_before g; symbol = Nonterminal owner; owner = record { before = z0; nonterminal = owner }; after = [] }))

@@ -66,7 +66,7 @@ pub(crate) fn row_shape(numbers: &[u16], row: Made) -> Shape
 pub(crate) fn row_kind(source: &Source<'_>, shape: Shape, row: Made) -> Kind
     ensures { result
         ≡ kind_by_shape shape (own_lexeme source.now.text.now source.now.starts.now source.now.lengths.now source.now.owned.now row.own)
-            (type_by shape (drop (suc row.place) (productions_of source.now.numbers.now))) }
+        (type_by shape (drop (suc row.place) (productions_of source.now.numbers.now))) }
 {
     let behind = row.place() as usize + 1;
     match shape {

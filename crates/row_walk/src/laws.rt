@@ -27,7 +27,7 @@ pub fn walks_give_rows()
     ensures next { (r : Tree Prog) (d : Token) (k : ℕ) → suc k < length (walk_marks d (left_parse r) (leaves r))
         → settled_at (walk_marks d (left_parse r) (leaves r)) (suc k)
         ≡ (if is_eval (mark_at (walk_marks d (left_parse r) (leaves r)) (suc k)).kind then (mark_at (walk_marks d (left_parse r) (leaves r)) k).token
-            else (mark_at (walk_marks d (left_parse r) (leaves r)) (suc k)).token) }
+        else (mark_at (walk_marks d (left_parse r) (leaves r)) (suc k)).token) }
 {
     tokens_are_cut();
     marks_tell_programs();

@@ -27,7 +27,7 @@ fn find(regions: &[Region], access: Access, address: u32, size: u32) -> Option<u
     ensures { MatchOption result
         ((d : MemoryRegion) (k : ℕ) → k < length regions.now → (holds (get_or regions.now k d) address size && permits access (get_or regions.now k d)) ≡ false)
         (λ i. (i < length regions.now) × ((d : MemoryRegion) → (holds (get_or regions.now i d) address size && permits access (get_or regions.now i d)) ≡ true)
-            × ((d : MemoryRegion) (k : ℕ) → k < i → (holds (get_or regions.now k d) address size && permits access (get_or regions.now k d)) ≡ false)) }
+        × ((d : MemoryRegion) (k : ℕ) → k < i → (holds (get_or regions.now k d) address size && permits access (get_or regions.now k d)) ≡ false)) }
 {
     let count = regions.len();
     if count > 0 && regions[count - 1].allows(access, address, size) {

@@ -91,8 +91,10 @@ module _ (p : Program) (turns : ℕ) where
     resume (If q ∷ k) o x = onwards (elim x [ zero ↦ gives None o.table | suc n ↦ run_in o (next_in q.numbering.now) (stmt_of q.statement.now) ])
         (λ r t. elim r [ None ↦ resume k (with_table o t) 0 | Some v ↦ leave k v ])
     resume (IfElse q ∷ k) o x = onwards
-        (elim x [ zero ↦ run_in o (next_in q.numbering.now + variables_in (stmt_of q.then.now)) (stmt_of q.otherwise.now)
-        | suc n ↦ run_in o (next_in q.numbering.now) (stmt_of q.then.now) ]) (λ r t. elim r [ None ↦ resume k (with_table o t) 0 | Some v ↦ leave k v ])
+        (elim x [
+          | zero ↦ run_in o (next_in q.numbering.now + variables_in (stmt_of q.then.now)) (stmt_of q.otherwise.now)
+          | suc n ↦ run_in o (next_in q.numbering.now) (stmt_of q.then.now)
+        ]) (λ r t. elim r [ None ↦ resume k (with_table o t) 0 | Some v ↦ leave k v ])
     resume (Turn l ∷ k) o x = onwards (turned (condition_of o l) (body_of o l) l.turns x o.table) (λ r t. elim r [ None ↦ resume k (with_table o t) 0 | Some v ↦ leave k v ])
     resume (Again l ∷ k) o x = onwards (loop (condition_of o l) (body_of o l) l.turns o.table) (λ r t. elim r [ None ↦ resume k (with_table o t) 0 | Some v ↦ leave k v ])
     resume (RunOne q ∷ k) o x = onwards (run_in o (next_in q.numbering.now) (stmt_of q.statement.now)) (λ r t. elim r [ None ↦ resume k (with_table o t) 0 | Some v ↦ leave k v ])

@@ -111,7 +111,7 @@ pub record GoesBack (w : Walker) (o : Opened) (y : Result (Unit {0}) Stop) (v : 
 pub record Follows (r : Rests) (q : PlacedAll) (s : Rests) : Type 0 where
   pub same : (p : Program) (turns : ℕ) (o : Opened) (x : Option ℕ)
       → ◌≡◌ {A = Outcome} (elim x [ None ↦ resume p turns (stacked s) o 0 | Some v ↦ leave p turns (stacked s) v ])
-          (elim x [ None ↦ resume p turns (RunAll q ∷ stacked r) o 0 | Some v ↦ leave p turns (RunAll q ∷ stacked r) v ])
+      (elim x [ None ↦ resume p turns (RunAll q ∷ stacked r) o 0 | Some v ↦ leave p turns (RunAll q ∷ stacked r) v ])
   pub fewer : (fs : List Callee) (turns calls : ℕ) → rests_weight fs turns calls (stacked s) ≤ rests_weight fs turns calls (RunAll q ∷ stacked r)
 
 -- What an open call does at once. The expression has this value, and changes nothing.

@@ -178,8 +178,10 @@ module _ (kind : ℕ → Kind) where
         (nodes_marked cs parent (place + 1) (i + length rs) (ap kind up_r ∙ here) (agrees_rest kind i rs rest g))
 
   marked_at : (rs : List Row) (bs : List Mark) (i k : ℕ) → Marked i rs bs → k < length bs
-      → get_or bs k (false, false) ≡ (is_left (kind (i + k + (get_or rs k no_row).up)) (get_or rs k no_row).place,
-      is_left (kind (i + k + (get_or rs k no_row).up)) (get_or rs k no_row).place)
+      → get_or bs k (false, false) ≡ (
+        is_left (kind (i + k + (get_or rs k no_row).up)) (get_or rs k no_row).place,
+        is_left (kind (i + k + (get_or rs k no_row).up)) (get_or rs k no_row).place,
+      )
   marked_at (r ∷ rs) (b ∷ bs) i zero h lt = let z : i + r.up ≡ i + 0 + r.up = omega arith in h.0 ∙ ap (λ n. (is_left (kind n) r.place, is_left (kind n) r.place)) z
   marked_at (r ∷ rs) (b ∷ bs) i (suc k) h lt =
       let z : i + 1 + k ≡ i + suc k = omega arith in
