@@ -10,8 +10,8 @@ use crate::fill::blank_list;
 use crate::made::{Begun, Hands, Made};
 use crate::views::Chunks;
 use chunk_seats::{ClaimBoard, Crew, Gate, Plan};
-use std::alloc::AllocError;
-use std::thread::join;
+use std::alloc::{AllocError, Global};
+use std::thread::{Threads, join};
 use word_monoid::WordMonoid;
 use worker_teams::Task;
 
@@ -120,8 +120,44 @@ impl<
     }
 }
 
-// That many workers, of which the first has the number `first`.
-fn run<
+// All workers of a team, two or more, of which the first makes a list of that many items, before it works, while the others work.
+fn begin_team<R: Threads + Sync, J: Task + Send + Sync, I: Copy + Send>(
+    rt: &R,
+    task: &J,
+    mut seats: J::Seats,
+    workers: u32,
+    alloc: Global,
+    item: I,
+    len: usize,
+) -> (J::Made, Result<Vec<I>, AllocError>)
+    requires workers { (2 ≤ workers) × (workers ≤ 64) }
+    requires begins { J.begins task.now workers seats }
+    requires len { len < 2 ^ 62 }
+    ensures made { J.ends task.now workers result.0 }
+    ensures list { IfOk result.1 (λ v. length v.items ≡ len) }
+{
+    let rest = workers - 1;
+    let others = task.split(&mut seats, 1, rest);
+    let ((one, list), two) = join(
+        rt,
+        move || -> (J::Made, Result<Vec<I>, AllocError>)
+            requires { (len < 2 ^ 62) × J.begins task.now 1 seats }
+            ensures made { J.ends task.entry.now 1 result.0 }
+            ensures list { IfOk result.1 (λ v. length v.items ≡ len) }
+        {
+            let list = blank_list(alloc, item, len);
+            (task.work(seats, 0), list)
+        },
+        move || -> J::Made
+            requires { (1 ≤ rest) × (1 + rest ≤ 64) × J.begins task.now rest others }
+            ensures { J.ends task.entry.now rest result }
+        { worker_teams::run(rt, task, others, 1, rest) },
+    );
+    (task.merge(1, rest, one, two), list)
+}
+
+// All workers, two or more, and a list for the answer.
+pub(crate) fn begin<
     'a,
     C: Crew,
     T: Copy + Sync,
@@ -135,86 +171,6 @@ fn run<
     claims: &ClaimBoard,
     seat: Seat,
     mine: chunk_seats::Seat,
-    first: u32,
-    workers: u32,
-    items: &[T],
-    lift: &F,
-) -> Result<Made<M::Item>, AllocError>
-    requires boards { (seat.board ≡ board.now.board) × (mine.board ≡ claims.now.board) × (claims.now.chunks ≡ board.now.chunks) }
-    requires new { (seat.view ≡ blank workers) × (mine.view ≡ fresh workers) }
-    requires workers { (1 ≤ workers) × (first + workers ≤ 64) }
-    requires callable { All (F.pre lift.now) items.now }
-    requires scans { Scans (M.ops board.now.monoid) (F.post lift.now) plan.now.chunk items.now N.items N.sums }
-    ensures { IfOk result (λ r. Makes (M.ops board.now.monoid) N.sums board.now.board claims.now.board workers r) }
-{
-    let scanning = Scanning {
-        crew,
-        plan,
-        board,
-        claims,
-        items,
-        lift,
-    };
-    let hands = Hands { seat, mine };
-    worker_teams::run(crew.runtime(), &scanning, hands, first, workers)
-}
-
-// One worker, and a list for the answer, which it makes before.
-fn first_worker<
-    'a,
-    C: Crew,
-    T: Copy + Sync,
-    M: WordMonoid<Item: Send + Sync> + Sync,
-    N: Chunks<M::Item> + Send + Sync,
-    F: Fn(T) -> M::Item + Sync,
->(
-    crew: &C,
-    plan: &Plan,
-    board: &ScanBoard<'a, M, N>,
-    claims: &ClaimBoard,
-    mut seat: Seat,
-    mut mine: chunk_seats::Seat,
-    items: &[T],
-    lift: &F,
-) -> Result<Begun<M::Item>, AllocError>
-    requires boards { (seat.board ≡ board.now.board) × (mine.board ≡ claims.now.board) × (claims.now.chunks ≡ board.now.chunks) }
-    requires new { (seat.view ≡ blank 1) × (mine.view ≡ fresh 1) }
-    requires callable { All (F.pre lift.now) items.now }
-    requires len { length items.now < 2 ^ 62 }
-    requires scans { Scans (M.ops board.now.monoid) (F.post lift.now) plan.now.chunk items.now N.items N.sums }
-    ensures made { IfOk result (λ r. Makes (M.ops board.now.monoid) N.sums board.now.board claims.now.board 1 r.made) }
-    ensures list { IfOk result (λ r. length r.list.items ≡ length items.now) }
-{
-    let list = blank_list(crew.alloc(), board.monoid().unit(), items.len())?;
-    let starts = board.work_starts(
-        crew.alloc(),
-        &mut seat,
-        claims,
-        &mut mine,
-        plan,
-        &|chunk: Option<u64>| crew.gate().after_claim(0, chunk),
-        items,
-        lift,
-    )?;
-    let made = Made { seat, mine, starts };
-    Ok(Begun { made, list })
-}
-
-// All workers, two or more, of which the first makes the list for the answer, before it draws, while the others draw.
-pub(crate) fn begin<
-    'a,
-    C: Crew,
-    T: Copy + Sync,
-    M: WordMonoid<Item: Send + Sync> + Sync,
-    N: Chunks<M::Item> + Send + Sync,
-    F: Fn(T) -> M::Item + Sync,
->(
-    crew: &C,
-    plan: &Plan,
-    board: &ScanBoard<'a, M, N>,
-    claims: &ClaimBoard,
-    mut seat: Seat,
-    mut mine: chunk_seats::Seat,
     workers: u32,
     items: &[T],
     lift: &F,
@@ -228,33 +184,27 @@ pub(crate) fn begin<
     ensures made { IfOk result (λ r. Makes (M.ops board.now.monoid) N.sums board.now.board claims.now.board workers r.made) }
     ensures list { IfOk result (λ r. length r.list.items ≡ length items.now) }
 {
-    let rest = workers - 1;
-    let other = board.split(&mut seat, rest);
-    let theirs = claims.split(&mut mine, rest);
-    let (one, two) = join(
+    let scanning = Scanning {
+        crew,
+        plan,
+        board,
+        claims,
+        items,
+        lift,
+    };
+    let hands = Hands { seat, mine };
+    let unit = board.monoid().unit();
+    let (made, list) = begin_team(
         crew.runtime(),
-        move || -> Result<Begun<M::Item>, AllocError>
-            requires { (seat.board ≡ board.now.board) × (mine.board ≡ claims.now.board) × (claims.now.chunks ≡ board.now.chunks)
-                × (seat.view ≡ blank 1) × (mine.view ≡ fresh 1)
-                × All (F.pre lift.now) items.now × (length items.now < 2 ^ 62)
-                × Scans (M.ops board.now.monoid) (F.post lift.now) plan.now.chunk items.now N.items N.sums }
-            ensures made { IfOk result (λ r. Makes (M.ops board.entry.now.monoid) N.sums board.entry.now.board claims.entry.now.board 1 r.made) }
-            ensures list { IfOk result (λ r. length r.list.items ≡ length items.entry.now) }
-        { first_worker(crew, plan, board, claims, seat, mine, items, lift) },
-        move || -> Result<Made<M::Item>, AllocError>
-            requires { (other.board ≡ board.now.board) × (theirs.board ≡ claims.now.board) × (claims.now.chunks ≡ board.now.chunks)
-                × (other.view ≡ blank rest) × (theirs.view ≡ fresh rest)
-                × (1 ≤ rest) × (1 + rest ≤ 64)
-                × All (F.pre lift.now) items.now
-                × Scans (M.ops board.now.monoid) (F.post lift.now) plan.now.chunk items.now N.items N.sums }
-            ensures { IfOk result (λ r. Makes (M.ops board.entry.now.monoid) N.sums board.entry.now.board claims.entry.now.board rest r) }
-        {
-            run(
-                crew, plan, board, claims, other, theirs, 1, rest, items, lift,
-            )
-        },
+        &scanning,
+        hands,
+        workers,
+        crew.alloc(),
+        unit,
+        items.len(),
     );
-    let Begun { made, list } = one?;
-    let made = merge(board, claims, 1, rest, made, two?)?;
-    Ok(Begun { made, list })
+    Ok(Begun {
+        made: made?,
+        list: list?,
+    })
 }

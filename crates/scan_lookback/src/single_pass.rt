@@ -59,6 +59,98 @@ fn chunks_each(count: usize, workers: u32) -> usize
     count.div_ceil(workers as usize).max(1)
 }
 
+// The joins before each item, and the join of all, where the joins before the chunks are known. Each worker fills a part of the list.
+fn fill_list<
+    C: Crew,
+    T: Copy + Sync,
+    M: WordMonoid<Item: Send + Sync> + Sync,
+    F: Fn(T) -> M::Item + Sync,
+    N: Chunks<M::Item> + Send + Sync,
+>(
+    crew: &C,
+    plan: &Plan,
+    monoid: &M,
+    items: &[T],
+    lift: &F,
+    count: usize,
+    workers: u32,
+    starts: &[M::Item],
+    list: Vec<M::Item>,
+) -> Result<Vec<M::Item>, AllocError>
+    requires len { length items.now < 2 ^ 62 }
+    requires count { count ≡ chunk_count plan.now.chunk (length items.now) }
+    requires workers { 0 < workers }
+    requires callable { All (F.pre lift.now) items.now }
+    requires scans { Scans (M.ops monoid.now) (F.post lift.now) plan.now.chunk items.now N.items N.sums }
+    requires starts { starts.now ≡ prefixes_from (M.ops monoid.now) N.sums 0 (length N.sums) }
+    requires wide { length list.items ≡ length items.now }
+    ensures { IfOk result (λ v. v.items ≡ prefixes (M.ops monoid.now) N.items) }
+{
+    know_laws(monoid);
+    let per = chunks_each(count, workers);
+    let mut out = list;
+    fill::<T, M, N, F, C::Runtime>(
+        crew.runtime(),
+        monoid,
+        items,
+        lift,
+        plan.chunk,
+        per,
+        starts,
+        out.as_mut_slice(),
+    );
+    let last = total::<T, M, N, F>(monoid, items, lift, plan.chunk, out.as_slice());
+    out.push(last)?;
+    Ok(out)
+}
+
+// The scan by two workers or more, where the run's lists have names.
+fn scan_together<
+    C: Crew,
+    T: Copy + Sync,
+    M: WordMonoid<Item: Send + Sync> + Sync,
+    F: Fn(T) -> M::Item + Sync,
+    N: Chunks<M::Item> + Send + Sync,
+>(
+    crew: &C,
+    plan: &Plan,
+    monoid: &M,
+    items: &[T],
+    lift: &F,
+    count: usize,
+    workers: u32,
+) -> Result<Vec<M::Item>, AllocError>
+    requires len { length items.now < 2 ^ 62 }
+    requires count { (count ≡ chunk_count plan.now.chunk (length items.now)) × (count < 2 ^ 62) }
+    requires workers { (2 ≤ workers) × (workers ≤ 64) }
+    requires callable { All (F.pre lift.now) items.now }
+    requires scans { Scans (M.ops monoid.now) (F.post lift.now) plan.now.chunk items.now N.items N.sums }
+    requires names { Names (M.ops monoid.now) N.sums N.sum_codes N.prefix_codes }
+    ensures { IfOk result (λ v. v.items ≡ prefixes (M.ops monoid.now) N.items) }
+{
+    know_laws(monoid);
+    let (claims, mine) = ClaimBoard::new(crew.alloc(), count as u64, workers)?;
+    let (board, seat) = ScanBoard::<M, N>::new(crew.alloc(), monoid, count as u64, workers)?;
+    let Begun { made, list } = begin(
+        crew, plan, &board, &claims, seat, mine, workers, items, lift,
+    )?;
+    let Made { seat, mine, starts } = made;
+    board.close(seat);
+    claims.close(mine);
+    let starts = in_order(crew.alloc(), count, starts)?;
+    fill_list::<C, T, M, F, N>(
+        crew,
+        plan,
+        monoid,
+        items,
+        lift,
+        count,
+        workers,
+        starts.as_slice(),
+        list,
+    )
+}
+
 // The scan, where the run's lists have names.
 fn scan_named<
     C: Crew,
@@ -73,36 +165,13 @@ fn scan_named<
     requires names { Names (M.ops monoid.now) N.sums N.sum_codes N.prefix_codes }
     ensures { IfOk result (λ v. v.items ≡ prefixes (M.ops monoid.now) N.items) }
 {
-    know_laws(monoid);
     let count = count_chunks(items.len(), plan.chunk);
     let workers = (plan.workers as usize).min(count.max(1)) as u32;
     if workers == 1 {
-        return scan_alone::<C, T, M, N, F>(crew, plan, monoid, items, lift, count);
+        scan_alone::<C, T, M, N, F>(crew, plan, monoid, items, lift, count)
+    } else {
+        scan_together::<C, T, M, F, N>(crew, plan, monoid, items, lift, count, workers)
     }
-    let (claims, mine) = ClaimBoard::new(crew.alloc(), count as u64, workers)?;
-    let (board, seat) = ScanBoard::<M, N>::new(crew.alloc(), monoid, count as u64, workers)?;
-    let Begun { made, list } = begin(
-        crew, plan, &board, &claims, seat, mine, workers, items, lift,
-    )?;
-    let Made { seat, mine, starts } = made;
-    board.close(seat);
-    claims.close(mine);
-    let starts = in_order(crew.alloc(), count, starts)?;
-    let per = chunks_each(count, workers);
-    let mut out = list;
-    fill::<T, M, N, F, C::Runtime>(
-        crew.runtime(),
-        monoid,
-        items,
-        lift,
-        plan.chunk,
-        per,
-        starts.as_slice(),
-        out.as_mut_slice(),
-    );
-    let last = total::<T, M, N, F>(monoid, items, lift, plan.chunk, out.as_slice());
-    out.push(last)?;
-    Ok(out)
 }
 
 /// The join of what is made of the items before each item, and then the join of all: one more than there are items. It is the same
