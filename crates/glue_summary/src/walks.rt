@@ -8,10 +8,11 @@ use crate::fault::ParseFault;
 use crate::parsing::join_chunk;
 use crate::pieces::PieceTables;
 use crate::stack::Stack;
-use crate::stretches::{behind_chunk, chunk_tokens};
+use crate::stretches::behind_chunk;
 use crate::written::write_productions;
 use std::alloc::{AllocError, Global};
 use std::marker::Model;
+use worker_teams::chunk_slice;
 
 /// A walk over pairs: the stack behind them, and their productions.
 #[derive(Drop)]
@@ -60,7 +61,7 @@ impl Walk {
     {
         join_chunk(tables, tokens, size, c, &None, &mut self.stack)?;
         let behind = behind_chunk(tokens, size, c);
-        let part = chunk_tokens(tokens, size, c);
+        let part = chunk_slice(tokens, size, c);
         write_productions(tables, behind, part, &mut self.productions)?;
         Ok(())
     }

@@ -9,12 +9,12 @@ ghost use Rattle.llp_wide.specs.WideParsing.{IsFaultByWide, IsLeftParseByWide};
 
 use chunk_seats::Gate;
 use glue_summary::{
-    Mark, ParseFault, PieceTables, Walk, chunks_make_the_whole, count_chunks, ended, join_word,
-    marks_of_chunk, productions_of_chunk, tables_make_the_parse,
+    Mark, ParseFault, PieceTables, Walk, chunks_make_the_whole, ended, join_word, marks_of_chunk,
+    productions_of_chunk, tables_make_the_parse,
 };
 use llp_tables::Tables;
 use llp_wide::{WideTables, wide_tables_make_the_parse};
-use par_passes::Passes;
+use par_passes::{Passes, count_chunks};
 use std::alloc::AllocError;
 
 // The marks of the summaries of all chunks.
@@ -31,7 +31,7 @@ fn all_marks<T: PieceTables + Send + Sync>(
     let marks = |c: u64| -> Result<Vec<Mark>, AllocError>
         ensures { IfOk result (λ v. v.items ≡ chunk_marks (T.pieces tables.entry.now) size tokens.entry.now c) }
     { marks_of_chunk(alloc, tables, tokens, size, c) };
-    let count = count_chunks(tokens, size);
+    let count = count_chunks(tokens.len(), size);
     crew.by_chunks(count, count, &marks)
 }
 
@@ -49,7 +49,7 @@ fn all_productions<T: PieceTables + Send + Sync>(
     let productions = |c: u64| -> Result<Vec<u16>, AllocError>
         ensures { IfOk result (λ v. v.items ≡ chunk_productions (T.pieces tables.entry.now) size tokens.entry.now c) }
     { productions_of_chunk(alloc, tables, tokens, size, c) };
-    crew.by_chunks(count_chunks(tokens, size), tokens.len(), &productions)
+    crew.by_chunks(count_chunks(tokens.len(), size), tokens.len(), &productions)
 }
 
 // By the whole crew: what each chunk closes and opens, these joined in order onto the stack of the start, and then each chunk's productions.
@@ -82,7 +82,7 @@ fn glue_in_turn<T: PieceTables + Send + Sync>(
 {
     chunks_make_the_whole();
     let mut walk = Walk::start(crew.alloc(), tables, tokens.len())?;
-    for c in 0..count_chunks(tokens, size) as u64 {
+    for c in 0..count_chunks(tokens.len(), size) as u64 {
         crew.gate().after_claim(0, Some(c));
         walk.follow_chunk(tables, tokens, size, c)?;
     }

@@ -11,7 +11,7 @@ use Rattle.chunk_seats.specs.Chunks.{chunk_of, chunk_count}
 use Rattle.chunk_seats.specs.Tallies.{times, one, OnceBelow}
 use Rattle.chunk_seats.specs.Offers.{IsLeast}
 use Rattle.chunk_seats.specs.Laws.Totals.{one_same, one_other}
-use Rattle.scan_lookback.specs.Laws.Cutting.{chunks_all}
+use Rattle.chunk_seats.specs.Laws.Counted.{chunks_all}
 use Rattle.par_passes.specs.Least.{least_key}
 
 abbrev top : ℕ

@@ -7,7 +7,8 @@ use Rattle.word_monoid.specs.Monoid.{Ops}
 use Rattle.word_monoid.specs.Folds.{fold_of, prefix_of, prefixes, prefixes_from}
 use Rattle.word_monoid.specs.Laws.Folds.{range-append}
 use Rattle.scan_lookback.specs.Cuts.{Lifts, Scans, running}
-use Rattle.scan_lookback.specs.Laws.Cutting.{chunks_all, fold_on, length-chunk, lifts_chunk, runs_from}
+use Rattle.chunk_seats.specs.Laws.Counted.{chunks_all}
+use Rattle.scan_lookback.specs.Laws.Cutting.{fold_on, length-chunk, lifts_chunk, runs_from}
 
 pub next_chunk : (c size : ℕ) → c * size + size ≡ (c + 1) * size
 next_chunk c size = sym (suc-mul c size) ∙ ap (λ (k : ℕ). k * size) (sym (add-one c))

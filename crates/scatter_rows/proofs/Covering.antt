@@ -2,19 +2,16 @@
 use Rattle.std.proofs.Common.{◌≡◌, ℕ, ◌+◌, ◌*◌, ◌/◌, ◌%◌, ◌<◌, ◌≤◌, min, List, [], ◌∷◌, ◌++◌, sym, ap, ◌∙◌, subst, arith, mul-le-mul_right, suc-mul, lt_of_not-le}
 use Rattle.std.proofs.Math.Nat.{div-mul-le_self, lt-div-mul-add}
 use Rattle.std.proofs.lemmas.Nat.{div_below}
-use Rattle.std.proofs.lemmas.Grind.{div_ceil_times}
 use mathlib.Core.Logic.{dite}
 use native.Mathlib.Decide.{dec_le, ℕ_discrete}
 use Rattle.chunk_seats.specs.Tallies.{one, times, OnceBelow}
+use Rattle.chunk_seats.specs.Chunks.{chunk_count}
+use Rattle.chunk_seats.specs.Laws.Counted.{chunk_inside, chunks_all}
 use Rattle.chunk_seats.specs.Laws.Totals.{times-append, times_snoc, one_same, one_other}
 use Rattle.scatter_rows.specs.Worked.{IsCut, Covers}
 
-pub cut_of : (count size chunks : ℕ) → 0 < size → chunks ≡ count / size + min 1 (count % size) → IsCut count size chunks
-cut_of count size chunks some_size is =
-    let t = div_ceil_times count size some_size in
-    let all : count ≤ chunks * size = subst (λ (n : ℕ). count ≤ n * size) (sym is) t.0 in
-    let few : chunks * size < count + size = subst (λ (n : ℕ). n * size < count + size) (sym is) t.1 in
-    record { inside = λ c h. omega (arith, mul-le-mul_right size h, suc-mul c size); all = all }
+pub cut_of : (count size : ℕ) → 0 < size → IsCut count size (chunk_count size count)
+cut_of count size some_size = record { inside = λ c h. chunk_inside count size c some_size h; all = chunks_all count size some_size }
 
 pub covers_none : (count size : ℕ) → Covers count size [] []
 covers_none count size c i p = absurd (omega arith)

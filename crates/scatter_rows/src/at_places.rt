@@ -2,7 +2,7 @@
 ghost use Rattle.std.specs.Prelude.{◌≡◌, ℕ, List, ◌-◌, ◌<◌, ◌^◌, length, IfOk, All, replicate};
 ghost use Rattle.std.specs.Result.{OnOk};
 ghost use Rattle.scatter_rows.specs.Scattered.{AreDistinct, IsScattered};
-ghost use Rattle.scatter_rows.specs.Worked.{AreFit, IsCut};
+ghost use Rattle.scatter_rows.specs.Worked.{AreFit};
 
 use crate::alone::scatter_alone;
 use crate::cells::Cells;
@@ -11,21 +11,12 @@ use crate::views::Pairs;
 use chunk_seats::{ClaimBoard, Crew};
 use std::alloc::AllocError;
 use std::marker::Brand;
-use worker_teams::run;
+use worker_teams::{count_chunks, run};
 
 /// What `scatter` promises holds of one list at most.
 pub fn scatter_is_unique()
     ensures { (places values : List ℕ) (len : ℕ) (xs ys : List ℕ) → IsScattered places values len xs → IsScattered places values len ys → xs ≡ ys }
 {}
-
-// How many chunks there are.
-fn chunk_count(len: usize, chunk: u32) -> u64
-    requires { (len < 2 ^ 62) × (0 < chunk) }
-    ensures cut { IsCut len chunk result }
-    ensures small { result < 2 ^ 62 }
-{
-    len.div_ceil(chunk as usize) as u64
-}
 
 // Puts the values into as many cells as there are zeros, and reads the cells out in their place.
 fn scatter_into<C: Crew, N: Pairs + Send + Sync>(
@@ -42,7 +33,7 @@ fn scatter_into<C: Crew, N: Pairs + Send + Sync>(
     ensures { OnOk result (IsScattered N.places N.values (length cells.old) cells.new) }
 {
     let plan = crew.plan();
-    let count = chunk_count(places.len(), plan.chunk);
+    let count = count_chunks(places.len(), plan.chunk) as u64;
     let workers = u64::from(plan.workers).min(count.max(1)) as u32;
     let (claims, mine) = ClaimBoard::new(crew.alloc(), count, workers)?;
     let (board, seat) = Cells::<N>::new(crew.alloc(), cells, workers)?;

@@ -20,7 +20,7 @@ pub fn chunk_slice<T>(items: &[T], size: u32, c: u64) -> &[T]
 
 /// How many chunks of that size the items make.
 pub fn count_chunks(len: usize, size: u32) -> usize
-    requires len { len < 2 ^ 62 }
+    requires len { len < 2 ^ 63 }
     requires size { (0 < size) × (size ≤ 65536) }
     ensures { result ≡ chunk_count size len }
 {

@@ -6,7 +6,7 @@ use Rattle.std.specs.List.{range_with_len, flat_map, zip}
 use Rattle.std.proofs.lemmas.List.{take_all, map-append}
 use Rattle.std.proofs.lemmas.List.Elements.{filter-append, All-take, All-drop}
 use Rattle.chunk_seats.specs.Chunks.{chunk_of, chunk_count}
-use Rattle.scan_lookback.specs.Laws.Cutting.{chunks_all}
+use Rattle.chunk_seats.specs.Laws.Counted.{chunks_all}
 use Rattle.scan_lookback.specs.Laws.Lists.{flat_map_more}
 
 module _ {X Y : Type 0} (h : List X → List Y) (none : h [] ≡ []) (parts : (xs ys : List X) → h (xs ++ ys) ≡ h xs ++ h ys) (size : ℕ) (items : List X) where

@@ -9,41 +9,12 @@ use Rattle.std.proofs.lemmas.List.Elements.{All-take, All-drop}
 use Rattle.std.proofs.lemmas.List.Sums.{fold-append, fold_more}
 use Rattle.std.proofs.lemmas.List.FromFn.{length-map-range_with_len, map-range_with_len_more}
 use Rattle.chunk_seats.specs.Chunks.{chunk_of, chunk_count}
+use Rattle.chunk_seats.specs.Laws.Counted.{chunk_inside, chunk_near}
 use Rattle.word_monoid.specs.Monoid.{Ops, IsItem, IsMonoid}
 use Rattle.word_monoid.specs.Folds.{fold_of, prefix_of, prefixes_from}
 use Rattle.word_monoid.specs.Laws.Folds.{get_below, get_at, all_at, fold_of-item, fold_append, prefix_next}
 use Rattle.scan_lookback.specs.Cuts.{Lifts, GivesItems, sums_of, chunk_prefixes, running, Scans}
 use Rattle.scan_lookback.specs.Laws.Lists.{get_take, take_get, get_drop, get_range, map_ranges}
-
--- chunks of a size that isn't 0
-pub chunk_inside : (n size c : ℕ) → 0 < size → c < chunk_count size n → c * size < n
-chunk_inside n size c pos h =
-    let q : ℕ = chunk_count size n in
-    let d : q * size + (n + (size - 1)) % size ≡ n + (size - 1) = div-add-mod' (n + (size - 1)) size in
-    let le : suc c ≤ q = omega arith in
-    let m : suc c * size ≤ q * size = mul-le-mul_right size le in
-    let s : suc c * size ≡ c * size + size = suc-mul c size in
-    let x : ℕ = q * size in let y : ℕ = suc c * size in let z : ℕ = c * size in let r : ℕ = (n + (size - 1)) % size in
-    let d' : x + r ≡ n + (size - 1) = d in let m' : y ≤ x = m in let s' : y ≡ z + size = s in
-    omega arith
-
-pub chunks_all : (n size : ℕ) → 0 < size → n ≤ chunk_count size n * size
-chunks_all n size pos =
-    let q : ℕ = chunk_count size n in
-    let d : q * size + (n + (size - 1)) % size ≡ n + (size - 1) = div-add-mod' (n + (size - 1)) size in
-    let x : ℕ = q * size in let r : ℕ = (n + (size - 1)) % size in
-    let d' : x + r ≡ n + (size - 1) = d in
-    let less : r < size = omega arith in
-    omega arith
-
--- a place that begins a chunk lies in one of the chunks
-pub chunk_near : (n size c : ℕ) → 0 < size → c * size < n → c < chunk_count size n
-chunk_near n size c pos h =
-    let q : ℕ = chunk_count size n in
-    let all : n ≤ q * size = chunks_all n size pos in
-    dite (dec_le q c)
-    (λ le. let m : q * size ≤ c * size = mul-le-mul_right size le in let x : ℕ = q * size in let y : ℕ = c * size in let a : n ≤ x = all in let b : x ≤ y = m in let d : y < n = h in absurd (omega arith))
-    (λ over. omega arith)
 
 -- a piece of so many chunks has few items
 pub piece_small : (n size per : ℕ) → 0 < size → size ≤ 65536 → n < 2 ^ 62 → per ≤ max (chunk_count size n) 1 → per * size < 2 ^ 64

@@ -1,6 +1,6 @@
 use Rattle.std.proofs.Common.{◌≡◌, ◌*◌, ◌≤◌, length, arith, sym, subst}
 use Rattle.std.specs.List.{range_with_len}
-use Rattle.scan_lookback.specs.Laws.Cutting.{chunks_all}
+use Rattle.chunk_seats.specs.Laws.Counted.{chunks_all}
 use Rattle.par_passes.specs.Passes.{Gives}
 use Rattle.par_passes.specs.Laws.Together.{if_ok}
 use Rattle.par_passes.specs.Laws.Giving.{each_number}

@@ -2,7 +2,8 @@ use Rattle.std.proofs.Common.{◌≡◌, ◌<◌, ◌*◌, ◌∙◌, length, ap
 use Rattle.word_monoid.specs.Monoid.{IsItem}
 use Rattle.chunk_seats.specs.Chunks.{chunk_count}
 use Rattle.scan_lookback.proofs.OneWorker.{before_none, joined_none, before_next, join_next, before_all, chunk_lifts}
-use Rattle.scan_lookback.specs.Laws.Cutting.{chunk_inside, gives_chunk, all_chunk}
+use Rattle.chunk_seats.specs.Laws.Counted.{chunk_inside}
+use Rattle.scan_lookback.specs.Laws.Cutting.{gives_chunk, all_chunk}
 use Rattle.scan_lookback.proofs.alone.scan_alone.Given as given
 use Rattle.scan_lookback.proofs.alone.scan_alone.Goals as goal
 

@@ -4,7 +4,8 @@ use Rattle.glue_summary.specs.Glue.{productions_of}
 use Rattle.glue_summary.specs.Stretch.{HasFollowed, entries_of}
 use Rattle.glue_summary.specs.contracts.walks.Walk.{the_view}
 use Rattle.glue_summary.proofs.Answering.{handed_on}
-use Rattle.glue_summary.proofs.Chunks.{chunk_inside, followed_more, placed_fault}
+use Rattle.chunk_seats.specs.Laws.Counted.{chunk_inside}
+use Rattle.glue_summary.proofs.Chunks.{followed_more, placed_fault}
 use Rattle.glue_summary.proofs.walks.Walk.follow_chunk.Goals as goal
 
 pub join_chunk-requires-clause-begins : goal.join_chunk-requires-clause-begins
@@ -21,4 +22,4 @@ pub returns-clause-ok : goal.returns-clause-ok
 returns-clause-ok g c =
     let followed : HasFollowed (g.T.PieceTables.pieces c.args.tables.now) (g.T.PieceTables.mark c.args.tables.now) c.args.size c.args.tokens.now c.args.c (the_view c.self.inside) = subst (HasFollowed _ _ c.args.size c.args.tokens.now c.args.c) (sym c.self.view_is) c.requires.followed in
     followed_more _ _ c.args.size c.args.tokens.now c.args.c (the_view c.self.inside) c.join_chunk.new.stack c.write_productions.new.out.items followed c.in_ok-join_chunk.ensures.ok
-    (◌∙◌ {A = List ℕ} c.in_ok-write_productions.ensures (λ i. c.self.inside.productions.items ++ flat_map productions_of (entries_of (g.T.PieceTables.pieces c.args.tables.now) (c.behind_chunk-behind.ensures i) (c.chunk_tokens-part.ensures i))))
+    (◌∙◌ {A = List ℕ} c.in_ok-write_productions.ensures (λ i. c.self.inside.productions.items ++ flat_map productions_of (entries_of (g.T.PieceTables.pieces c.args.tables.now) (c.behind_chunk-behind.ensures i) (c.chunk_slice-part.ensures i))))
