@@ -13,12 +13,12 @@ use Rattle.ast_rows.specs.NodeRows.{low_at, lows_of, parent_numbers}
 use Rattle.row_rules.specs.Steps.{parent_kind}
 use Rattle.row_rules.specs.Visible.{row_at}
 use Rattle.code_rules.specs.PieceRules.{is_operator}
-use Rattle.rv_select.specs.Columns.{ProgramColumns}
 use Rattle.rv_select.specs.Layout as layout
 use Rattle.rv_select.specs.Laws.OfProgram.{place_is, parent_is}
 use Rattle.rv_select.specs.Laws.Laid.{prefix_first, prefix_step, rows_many, above_is, begin_low}
 use Rattle.rv_select.specs.Laws.Kept.{passing, lengths, fit}
-use Rattle.rv_emit.specs.OfColumns.{rows_of, child_by, child_of, kept_places_of, kept_values_of, AreChildren, AreColumnsOf}
+use Rattle.rv_select.specs.Columns.{ProgramColumns, AreColumns}
+use Rattle.rv_emit.specs.OfColumns.{child_by, child_of, AreChildren}
 use Rattle.rv_emit.proofs.Lows.{second_told, start_told}
 use Rattle.rv_emit.proofs.Whole.{parents_many}
 
@@ -47,7 +47,7 @@ kept_kind Block place h = absurd (no_true h)
 kept_kind If place h = absurd (no_true h)
 kept_kind Eval place h = absurd (no_true h)
 
-module _ (c : ProgramColumns) (p : Program) (are : AreColumnsOf c p) (lows : List ℕ) (lows_are : lows ≡ lows_of (parent_numbers 0 (post p))) where
+module _ (c : ProgramColumns) (p : Program) (are : AreColumns c p) (lows : List ℕ) (lows_are : lows ≡ lows_of (parent_numbers 0 (post p))) where
   abbrev begin : ℕ → ℕ
   begin k = get_or (layout.begins c) k 0
 
@@ -116,7 +116,7 @@ module _ (c : ProgramColumns) (p : Program) (are : AreColumnsOf c p) (lows : Lis
       ]
 
   -- all kept children stand at their parents
-  pub children_told : (v : List ℕ) → v ≡ map (child_of c lows) (rows_of c) → AreChildren c v
+  pub children_told : (v : List ℕ) → v ≡ map (child_of c lows) (layout.rows c) → AreChildren c v
   children_told v is i lt =
       let n = lengths c p are in
       let e = many in
@@ -125,8 +125,8 @@ module _ (c : ProgramColumns) (p : Program) (are : AreColumnsOf c p) (lows : Lis
       let k = get_or list i 0 in
       let high = h.1 in
       let f = (fit c p are i lt).0 in
-      let at : get_or (kept_places_of c) i 0 ≡ get_or c.parents k 0 = get_or-map (λ (m : ℕ). get_or c.parents m 0) list i 0 0 li in
-      let kept : get_or (kept_values_of c) i 0 ≡ value k = get_or-map value list i 0 0 li in
+      let at : get_or (layout.kept_places c) i 0 ≡ get_or c.parents k 0 = get_or-map (λ (m : ℕ). get_or c.parents m 0) list i 0 0 li in
+      let kept : get_or (layout.kept_values c) i 0 ≡ value k = get_or-map value list i 0 0 li in
       let inside : get_or c.parents k 0 < length (post p) = omega arith in
       ap (λ (m : ℕ). get_or v m 0) at
       ∙ ap (λ (l : List ℕ). get_or l (get_or c.parents k 0) 0) is
