@@ -15,9 +15,10 @@ ghost use Rattle.ll1_sets.specs.Width.{width_of};
 use crate::cells::Members;
 use crate::entry_table::Tables;
 use crate::lengths::{empty_lengths, piece_length};
+use crate::lookbacks::lookbacks;
 use crate::rows::{PieceRows, add_row, only_member};
 use grammar_file::Grammar;
-use ll1_sets::{first, predictions, width_of};
+use ll1_sets::{first, nullable, predictions, width_of};
 use std::alloc::{AllocError, Global};
 
 /// How many productions the pieces take in which b comes next, by the sets of b.
@@ -77,6 +78,20 @@ pub(crate) fn length_of_rows(
         sum = sum.saturating_add(length);
     }
     Ok(sum)
+}
+
+/// How many productions the pieces of a grammar take: the room that its tables are made with. The count stops at the greatest u64.
+pub fn room_for_pieces(alloc: Global, grammar: &Grammar) -> Result<u64, AllocError> {
+    let nullable = nullable(alloc, grammar)?;
+    let lengths = empty_lengths(alloc, grammar)?;
+    let lookbacks = lookbacks(alloc, grammar, nullable.as_slice())?;
+    length_of_rows(
+        alloc,
+        grammar,
+        nullable.as_slice(),
+        lengths.as_slice(),
+        lookbacks.as_slice(),
+    )
 }
 
 /// No rows, with room for this many pieces and for so many productions.

@@ -7,6 +7,7 @@ pub mod Surveys
 pub mod Claims
 pub mod Classes
 pub mod Settling
+pub mod Grounds
 pub mod WideFaults
 pub mod WideConflicts
 pub mod WideEntries

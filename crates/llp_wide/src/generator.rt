@@ -15,10 +15,10 @@ use crate::conflicts::WideConflict;
 use crate::endings::endings;
 use crate::fault::{WideFault, prediction_fault};
 use crate::survey::places;
-use crate::triples::{Triples, conflict_or_triples, width_of};
+use crate::triples::{Triples, conflict_or_triples};
 use crate::wide_table::WideTables;
 use grammar_file::Grammar;
-use llp_tables::nullable;
+use ll1_sets::{nullable, width_of};
 use std::alloc::{AllocError, Global};
 
 /// The fault of two stacks that may be closed.

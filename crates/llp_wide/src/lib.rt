@@ -13,10 +13,6 @@ mod pieces;
 mod places;
 mod search;
 mod survey;
-#[cfg(test)]
-mod table_tests;
-#[cfg(test)]
-mod tests;
 mod triples;
 mod wide_table;
 

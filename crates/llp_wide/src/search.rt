@@ -1,6 +1,6 @@
 // What is closed behind each symbol where one terminal comes next, by what is matched last before the symbol.
 
-ghost use Rattle.std.specs.Prelude.{◌≡◌, ◌<◌, ◌≤◌, ◌+◌, ◌∷◌, [], ℕ, List, length, true, false, IfOk, OnOk};
+ghost use Rattle.std.specs.Prelude.{◌≡◌, ◌<◌, ◌≤◌, ◌∷◌, [], ℕ, List, length, true, false, IfOk, OnOk};
 ghost use Rattle.grammar_file.specs.declared.symbols.Symbol.{Symbol as AnySymbol};
 ghost use Rattle.grammar_file.specs.declared.symbols.Symbol.TheVariants.{Nonterminal as AnyNonterminal};
 ghost use Rattle.grammar_file.specs.Grammar.{IsWellFormed};
@@ -10,9 +10,9 @@ ghost use Rattle.ll1_sets.specs.Predict.{IsNullable, IsFirst};
 ghost use Rattle.llp_tables.specs.Slots.{Empty as EmptySlots, covers};
 ghost use Rattle.llp_wide.specs.Claims.{AreLeastWide, IsLeastClaim, IsPassOf};
 ghost use Rattle.llp_wide.specs.Added.{Adds};
-ghost use Rattle.llp_wide.specs.Classes.{HasWideCell, HasAdded, HasOpened, AreClasses, IsOpen, room_in};
+ghost use Rattle.llp_wide.specs.Classes.{HasWideCell, HasAdded, HasOpened, AreClasses, IsOpen};
+ghost use Rattle.llp_wide.specs.Grounds.{IsGround, IsSettlingOn, AreClassesOn, room_on};
 ghost use Rattle.llp_wide.specs.Places.{AreSpots, spots_behind};
-ghost use Rattle.llp_wide.specs.Settling.{IsWideSettling};
 
 use crate::claims::{Waiting, add_passes, first_waiting, is_covered, least_waiting};
 use crate::places::{Group, Place};
@@ -140,20 +140,13 @@ fn take(
     classes: &mut Vec<Members>,
     waiting: &mut Vec<Waiting>,
 ) -> Result<(), AllocError>
-    requires well_formed { IsWellFormed ground.now.grammar.now }
-    requires nullable { AreMarksOf ground.now.grammar.now (λ a. IsNullable ground.now.grammar.now (AnyNonterminal a ∷ [])) ground.now.nullable.now }
-    requires first { AreMarksOf ground.now.grammar.now (λ a. IsFirst ground.now.grammar.now (AnyNonterminal a ∷ []) ground.now.b) ground.now.first.now }
-    requires places { AreSpots ground.now.grammar.now ground.now.groups.now }
-    requires classes { AreClasses (length ground.now.grammar.now.terminals + 3) (length ground.now.grammar.now.nonterminals) classes.old.items }
-    requires settling { (last : List AnySymbol)
-        × IsWideSettling ground.now.grammar.now ground.now.nullable.now ground.now.first.now ground.now.b ground.now.groups.now last
-        (cells_at classes.old.items) waiting.old.items }
+    requires ground { IsGround ground.now }
+    requires classes { AreClassesOn ground.now classes.old.items }
+    requires settling { (last : List AnySymbol) × IsSettlingOn ground.now last classes.old.items waiting.old.items }
     requires least { IsLeastClaim waiting.old.items (cells_at classes.old.items) claim }
-    ensures classes { OnOk result (AreClasses (length ground.now.grammar.now.terminals + 3) (length ground.now.grammar.now.nonterminals) classes.new.items) }
-    ensures settling { OnOk result (IsWideSettling ground.now.grammar.now ground.now.nullable.now ground.now.first.now ground.now.b ground.now.groups.now claim.stack
-        (cells_at classes.new.items) waiting.new.items) }
-    ensures room { OnOk result (room_in (length ground.now.grammar.now.terminals + 3) (length ground.now.grammar.now.nonterminals) classes.new.items
-        < room_in (length ground.now.grammar.now.terminals + 3) (length ground.now.grammar.now.nonterminals) classes.old.items) }
+    ensures classes { OnOk result (AreClassesOn ground.now classes.new.items) }
+    ensures settling { OnOk result (IsSettlingOn ground.now claim.stack classes.new.items waiting.new.items) }
+    ensures room { OnOk result (room_on ground.now classes.new.items < room_on ground.now classes.old.items) }
 {
     let count = ground.grammar.nonterminal_count();
     pass_on(
@@ -187,17 +180,12 @@ fn take_at(
     classes: &mut Vec<Members>,
     waiting: &mut Vec<Waiting>,
 ) -> Result<(), AllocError>
-    requires well_formed { IsWellFormed ground.now.grammar.now }
-    requires nullable { AreMarksOf ground.now.grammar.now (λ a. IsNullable ground.now.grammar.now (AnyNonterminal a ∷ [])) ground.now.nullable.now }
-    requires first { AreMarksOf ground.now.grammar.now (λ a. IsFirst ground.now.grammar.now (AnyNonterminal a ∷ []) ground.now.b) ground.now.first.now }
-    requires places { AreSpots ground.now.grammar.now ground.now.groups.now }
-    requires classes { AreClasses (length ground.now.grammar.now.terminals + 3) (length ground.now.grammar.now.nonterminals) classes.old.items }
-    requires settling { IsWideSettling ground.now.grammar.now ground.now.nullable.now ground.now.first.now ground.now.b ground.now.groups.now stack.now (cells_at classes.old.items) waiting.old.items }
-    ensures classes { OnOk result (AreClasses (length ground.now.grammar.now.terminals + 3) (length ground.now.grammar.now.nonterminals) classes.new.items) }
-    ensures settling { OnOk result (IsWideSettling ground.now.grammar.now ground.now.nullable.now ground.now.first.now ground.now.b ground.now.groups.now stack.now
-        (cells_at classes.new.items) waiting.new.items) }
-    ensures room { OnOk result (room_in (length ground.now.grammar.now.terminals + 3) (length ground.now.grammar.now.nonterminals) classes.new.items
-        ≤ room_in (length ground.now.grammar.now.terminals + 3) (length ground.now.grammar.now.nonterminals) classes.old.items) }
+    requires ground { IsGround ground.now }
+    requires classes { AreClassesOn ground.now classes.old.items }
+    requires settling { IsSettlingOn ground.now stack.now classes.old.items waiting.old.items }
+    ensures classes { OnOk result (AreClassesOn ground.now classes.new.items) }
+    ensures settling { OnOk result (IsSettlingOn ground.now stack.now classes.new.items waiting.new.items) }
+    ensures room { OnOk result (room_on ground.now classes.new.items ≤ room_on ground.now classes.old.items) }
 {
     let Some(next) = waiting.get(i) else {
         return Ok(());
@@ -217,17 +205,12 @@ fn take_same(
     classes: &mut Vec<Members>,
     waiting: &mut Vec<Waiting>,
 ) -> Result<(), AllocError>
-    requires well_formed { IsWellFormed ground.now.grammar.now }
-    requires nullable { AreMarksOf ground.now.grammar.now (λ a. IsNullable ground.now.grammar.now (AnyNonterminal a ∷ [])) ground.now.nullable.now }
-    requires first { AreMarksOf ground.now.grammar.now (λ a. IsFirst ground.now.grammar.now (AnyNonterminal a ∷ []) ground.now.b) ground.now.first.now }
-    requires places { AreSpots ground.now.grammar.now ground.now.groups.now }
-    requires classes { AreClasses (length ground.now.grammar.now.terminals + 3) (length ground.now.grammar.now.nonterminals) classes.old.items }
-    requires settling { IsWideSettling ground.now.grammar.now ground.now.nullable.now ground.now.first.now ground.now.b ground.now.groups.now stack.now (cells_at classes.old.items) waiting.old.items }
-    ensures classes { OnOk result (AreClasses (length ground.now.grammar.now.terminals + 3) (length ground.now.grammar.now.nonterminals) classes.new.items) }
-    ensures settling { OnOk result (IsWideSettling ground.now.grammar.now ground.now.nullable.now ground.now.first.now ground.now.b ground.now.groups.now stack.now
-        (cells_at classes.new.items) waiting.new.items) }
-    ensures room { OnOk result (room_in (length ground.now.grammar.now.terminals + 3) (length ground.now.grammar.now.nonterminals) classes.new.items
-        ≤ room_in (length ground.now.grammar.now.terminals + 3) (length ground.now.grammar.now.nonterminals) classes.old.items) }
+    requires ground { IsGround ground.now }
+    requires classes { AreClassesOn ground.now classes.old.items }
+    requires settling { IsSettlingOn ground.now stack.now classes.old.items waiting.old.items }
+    ensures classes { OnOk result (AreClassesOn ground.now classes.new.items) }
+    ensures settling { OnOk result (IsSettlingOn ground.now stack.now classes.new.items waiting.new.items) }
+    ensures room { OnOk result (room_on ground.now classes.new.items ≤ room_on ground.now classes.old.items) }
 {
     for i in 0..waiting.len() {
         take_at(alloc, ground, stack, i, classes, waiting)?;

@@ -17,6 +17,7 @@ use crate::members::members_on;
 use crate::pieces::{Ahead, WidePiece, sets_ahead, triple_number};
 use crate::places::Group;
 use grammar_file::Grammar;
+use ll1_sets::width_of;
 use llp_tables::{Members, empty_lengths};
 use std::alloc::{AllocError, Global};
 
@@ -25,14 +26,6 @@ use std::alloc::{AllocError, Global};
 pub(crate) struct Triples {
     pub numbers: Vec<Option<u32>>,
     pub pieces: Vec<WidePiece>,
-}
-
-/// How many terminals there are, with the two marks.
-pub(crate) fn width_of(grammar: &Grammar) -> u16
-    ensures width { result ≡ width_of grammar.now }
-    ensures few { result < 259 }
-{
-    grammar.terminals().len() as u16 + 2
 }
 
 /// Adds the number of the piece of z and a.
@@ -93,7 +86,7 @@ fn add_row(
     requires triples { AreTriplesUpTo grammar.now ahead.now.b start (triple_place (width_of grammar.now) z 0 ahead.now.b) triples.old.numbers.items triples.old.pieces.items }
     ensures { OnOk result (AreTriplesUpTo grammar.now ahead.now.b start (triple_place (width_of grammar.now) (z + 1) 0 ahead.now.b) triples.new.numbers.items triples.new.pieces.items) }
 {
-    for a in 0..width_of(grammar) {
+    for a in 0..grammar.terminals().len() as u16 + 2 {
         add_triple(
             alloc, grammar, lengths, ahead, classes, z, a, start, triples,
         )?;

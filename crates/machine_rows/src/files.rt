@@ -1,9 +1,10 @@
 // Whole and damaged files.
 
-use byteorder::{ByteOrder, LittleEndian};
-use elf_file::{ElfFault, ReadError, read, write};
+use crate::runs::{change, comes_to, file_of, file_with};
+use elf_file::{ElfFault, ReadError, read};
 use rv_isa::FaultKind;
-use rv32_emul::{Machine, Outcome};
+use rv32_emul::Outcome;
+use std::alloc::Global;
 use std::test::Fail;
 
 /// The words of a program that returns 7.
@@ -27,7 +28,7 @@ const FILE: [u8; 144] = [
 
 #[test]
 fn written(rt: HostRuntime) -> Result<(), Fail> {
-    let file = write(rt.alloc(), &SEVEN)?;
+    let file = file_of(rt.alloc(), &SEVEN).ok_or("a file")?;
     assert!(rt; file.as_slice() == FILE.as_slice());
     let segments = read(rt.alloc(), &file)?;
     assert_eq!(rt; segments.entry(), 0x10054);
@@ -41,36 +42,45 @@ fn written(rt: HostRuntime) -> Result<(), Fail> {
     Ok(())
 }
 
-/// The file cut short, and how its fault is printed.
+/// Whether the file isn't loaded, with that fault.
+fn has_fault(alloc: Global, file: &[u8], fault: ElfFault) -> bool {
+    match read(alloc, file) {
+        Ok(_) => false,
+        Err(error) => error == ReadError::Fault(fault),
+    }
+}
+
+/// The file cut short.
 #[test]
-fn cut(rt: HostRuntime) -> Result<(), Fail> {
-    for n in 0..144usize {
+fn cut(rt: HostRuntime) {
+    for n in 0..144 {
         let fault = if n < 52 {
             ElfFault::Short
         } else {
             ElfFault::Segment(0)
         };
-        assert_eq!(rt;
-            read(rt.alloc(), &FILE[..n]).err(),
-            Some(ReadError::Fault(fault)),
-            "at {n}"
-        );
+        assert!(rt; has_fault(rt.alloc(), &FILE[..n], fault), "at {n}");
     }
-    let texts = [
-        (ElfFault::Segment(0), "Segment 0"),
-        (ElfFault::Short, "Short"),
-        (ElfFault::Machine, "Machine"),
-        (ElfFault::TooLarge, "TooLarge"),
-    ];
-    for (fault, text) in texts {
-        let printed = format!(in rt.alloc(); "{fault}")?;
-        assert!(rt; printed.as_str() == text);
+}
+
+const TEXTS: &[(ElfFault, &str)] = &[
+    (ElfFault::Segment(0), "Segment 0"),
+    (ElfFault::Short, "Short"),
+    (ElfFault::Machine, "Machine"),
+    (ElfFault::TooLarge, "TooLarge"),
+];
+
+/// How faults are printed.
+#[test]
+fn texts(rt: HostRuntime) -> Result<(), Fail> {
+    for &(fault, text) in TEXTS {
+        assert!(rt; format!(in rt.alloc(); "{fault}")?.as_str() == text);
     }
     Ok(())
 }
 
 /// Where a byte is changed, to what, and the fault.
-const BYTES: [(usize, u8, ElfFault); 8] = [
+const BYTES: &[(usize, u8, ElfFault)] = &[
     (0, 0x7E, ElfFault::Magic),
     (3, 0x47, ElfFault::Magic),
     (4, 2, ElfFault::Class),
@@ -83,21 +93,19 @@ const BYTES: [(usize, u8, ElfFault); 8] = [
 
 /// A byte changed, and the fault.
 #[test]
-fn bytes(rt: HostRuntime) {
-    for (offset, byte, fault) in BYTES {
-        let mut file = FILE;
-        assert!(rt; offset < 144);
-        file[offset] = byte;
-        assert_eq!(rt;
-            read(rt.alloc(), &file).err(),
-            Some(ReadError::Fault(fault)),
-            "at {offset}"
-        );
+fn bytes(rt: HostRuntime) -> Result<(), Fail> {
+    for &(offset, byte, fault) in BYTES {
+        let mut file = FILE.to_vec(rt.alloc())?;
+        if let Some(changed) = file.get_mut(offset) {
+            *changed = byte;
+        }
+        assert!(rt; has_fault(rt.alloc(), &file, fault), "at {offset}");
     }
+    Ok(())
 }
 
 /// Where four bytes are changed, to what, and the fault.
-const NUMBERS: [(usize, u32, ElfFault); 15] = [
+const NUMBERS: &[(usize, u32, ElfFault)] = &[
     (44, 65535, ElfFault::Segment(2)),
     (44, 0, ElfFault::Entry),
     (72, 0, ElfFault::Entry),
@@ -117,57 +125,74 @@ const NUMBERS: [(usize, u32, ElfFault); 15] = [
 
 /// Four bytes changed, and the fault. `e_phnum` has two bytes, and behind it stands 0.
 #[test]
-fn numbers(rt: HostRuntime) {
-    for (offset, number, fault) in NUMBERS {
-        let mut file = FILE;
-        assert!(rt; offset <= 140);
-        LittleEndian::write_u32(&mut file[offset..offset + 4], number);
-        assert_eq!(rt;
-            read(rt.alloc(), &file).err(),
-            Some(ReadError::Fault(fault)),
-            "{number:x} at {offset}"
-        );
+fn numbers(rt: HostRuntime) -> Result<(), Fail> {
+    for &(offset, number, fault) in NUMBERS {
+        let mut file = FILE.to_vec(rt.alloc())?;
+        change(&mut file, &[(offset, number)]);
+        assert!(rt; has_fault(rt.alloc(), &file, fault), "at {offset}");
     }
+    Ok(())
 }
 
-/// A segment up to the stack, one behind it, ones up to 2^32, one whose last word is cut, and one of 64 MiB.
+/// Where the file has the entry, the segment's address, and how many bytes it has in the file and in memory.
+const ENTRY: usize = 24;
+
+const START: usize = 60;
+
+const FILE_SIZE: usize = 68;
+
+const MEMORY_SIZE: usize = 72;
+
+/// Words, numbers that are changed in their file, how many steps go on, and what the next one comes to: a segment up to the stack,
+/// one behind it, and one up to 2^32; the last word of all addresses, behind which the pc is 0; a load of a word of which two bytes
+/// are in the segment; and a segment of 64 MiB.
+const EDGES: &[(&[u32], &[(usize, u32)], u64, Outcome)] = &[
+    (
+        &SEVEN,
+        &[(ENTRY, 0x6FFFFFC4), (START, 0x6FFFFFC4)],
+        13,
+        Outcome::Exit(7),
+    ),
+    (
+        &SEVEN,
+        &[(ENTRY, 0xFFFFFFC4), (START, 0xFFFFFFC4)],
+        13,
+        Outcome::Exit(7),
+    ),
+    (
+        &SEVEN,
+        &[(ENTRY, 0x70100000), (START, 0x70100000)],
+        13,
+        Outcome::Exit(7),
+    ),
+    (
+        &[0x00000013],
+        &[(ENTRY, 0xFFFFFFFC), (START, 0xFFFFFFFC)],
+        1,
+        Outcome::Fault {
+            kind: FaultKind::Fetch,
+            at: 0,
+            address: 0,
+        },
+    ),
+    (
+        &[0x00000397, 0x0083A503, 0x05D00893],
+        &[(FILE_SIZE, 10), (MEMORY_SIZE, 10)],
+        1,
+        Outcome::Fault {
+            kind: FaultKind::Load,
+            at: 0x10058,
+            address: 0x1005C,
+        },
+    ),
+    (&SEVEN, &[(MEMORY_SIZE, 0x04000000)], 13, Outcome::Exit(7)),
+];
+
 #[test]
 fn edges(rt: HostRuntime) -> Result<(), Fail> {
-    for start in [0x6FFFFFC4u32, 0xFFFFFFC4, 0x70100000] {
-        let mut file = FILE;
-        LittleEndian::write_u32(&mut file[24..28], start);
-        LittleEndian::write_u32(&mut file[60..64], start);
-        let mut m = Machine::load(rt.alloc(), &file)?;
-        assert_eq!(rt; m.run(14), Outcome::Exit(7));
+    for &(words, changes, steps, outcome) in EDGES {
+        let file = file_with(rt.alloc(), words, changes).ok_or("a file")?;
+        assert_eq!(rt; comes_to(rt.alloc(), &file, steps, 1), Some(outcome));
     }
-    // the last word of all addresses: behind it the pc is 0
-    let mut file = write(rt.alloc(), &[0x00000013])?;
-    assert!(rt; file.len() == 88);
-    LittleEndian::write_u32(&mut file[24..28], 0xFFFFFFFC);
-    LittleEndian::write_u32(&mut file[60..64], 0xFFFFFFFC);
-    let mut m = Machine::load(rt.alloc(), &file)?;
-    assert_eq!(rt; m.run(1), Outcome::More);
-    let fault = Outcome::Fault {
-        kind: FaultKind::Fetch,
-        at: 0,
-        address: 0,
-    };
-    assert_eq!(rt; m.run(1), fault);
-    // a load of a word of which two bytes are in the segment
-    let mut file = write(rt.alloc(), &[0x00000397, 0x0083A503, 0x05D00893])?;
-    assert!(rt; file.len() == 96);
-    LittleEndian::write_u32(&mut file[68..72], 10);
-    LittleEndian::write_u32(&mut file[72..76], 10);
-    let mut m = Machine::load(rt.alloc(), &file)?;
-    let fault = Outcome::Fault {
-        kind: FaultKind::Load,
-        at: 0x10058,
-        address: 0x1005C,
-    };
-    assert_eq!(rt; m.run(2), fault);
-    let mut file = FILE;
-    LittleEndian::write_u32(&mut file[72..76], 0x04000000);
-    let mut m = Machine::load(rt.alloc(), &file)?;
-    assert_eq!(rt; m.run(14), Outcome::Exit(7));
     Ok(())
 }

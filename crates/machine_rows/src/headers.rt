@@ -2,9 +2,10 @@
 
 ghost use Rattle.std.specs.Prelude.{◌<◌};
 
+use crate::runs::{change, comes_to};
 use byteorder::{ByteOrder, LittleEndian};
 use elf_file::{ElfFault, ReadError, Segment, read};
-use rv32_emul::{Machine, Outcome};
+use rv32_emul::Outcome;
 use std::alloc::{AllocError, Global};
 use std::test::Fail;
 
@@ -66,11 +67,7 @@ fn many_headers(alloc: Global, changes: &[(usize, u32)]) -> Result<Vec<u8>, Allo
         append(&mut file, &header_of(number))?;
     }
     append(&mut file, &SUM)?;
-    for (offset, number) in changes {
-        if *offset < file.len() && file.len() - *offset >= 4 {
-            LittleEndian::write_u32(&mut file[*offset..*offset + 4], *number);
-        }
-    }
+    change(&mut file, changes);
     Ok(file)
 }
 
@@ -84,25 +81,30 @@ fn is_numbered(segment: &Segment, number: u32) -> bool
         && LittleEndian::read_u32(segment.bytes()) == number
 }
 
-/// Each header has its segment, in the order of the headers, and the run sees all of them.
-#[test]
-fn all_are_loaded(rt: HostRuntime) -> Result<(), Fail> {
-    let file = many_headers(rt.alloc(), &[])?;
-    let read_file = read(rt.alloc(), &file)?;
+/// Whether each header has its segment, in the order of the headers.
+fn has_all(segments: &[Segment]) -> bool {
     let mut number = 0;
-    for segment in read_file.segments() {
-        let right = if number == 0 {
+    for segment in segments {
+        let is_right = if number == 0 {
             (segment.start(), segment.end(), segment.flags()) == (0x10000, 0x10024, 5)
         } else {
             number < HEADERS && is_numbered(segment, number)
         };
-        assert!(rt; right, "header {number}");
+        if !is_right {
+            return false;
+        }
         number = number.saturating_add(1);
     }
-    assert_eq!(rt; number, HEADERS);
-    let mut m = Machine::load(rt.alloc(), &file)?;
-    assert_eq!(rt; m.run(1200), Outcome::More);
-    assert_eq!(rt; m.run(1), Outcome::Exit(44850));
+    number == HEADERS
+}
+
+/// All are loaded, and the run sees them.
+#[test]
+fn all_are_loaded(rt: HostRuntime) -> Result<(), Fail> {
+    let file = many_headers(rt.alloc(), &[])?;
+    let segments = read(rt.alloc(), &file)?;
+    assert!(rt; has_all(segments.segments()));
+    assert!(rt; comes_to(rt.alloc(), &file, 1200, 1) == Some(Outcome::Exit(44850)));
     Ok(())
 }
 
@@ -112,7 +114,7 @@ const LATE: usize = 52 + 32 * 287;
 /// Where four bytes are changed in it, to what: its bytes are not in the file; it begins one byte before the
 /// end of the segment of header 1, ends one byte behind the start of another one, behind that of the stack, and
 /// behind all addresses; it has more bytes in the file than in memory; all segments are too large.
-const FAULTS: [(usize, u32); 7] = [
+const FAULTS: &[(usize, u32)] = &[
     (LATE + 4, 0xFFFFFFFE),
     (LATE + 8, 0x20073),
     (LATE + 8, 0x2126D),
@@ -122,21 +124,31 @@ const FAULTS: [(usize, u32); 7] = [
     (LATE + 20, 0x04000000),
 ];
 
-/// A fault in a late header is told by its number, and one in a later header is not. A late header beside other
-/// segments has none.
+/// The fault of the file with these changes, if it has one.
+fn fault_with(alloc: Global, changes: &[(usize, u32)]) -> Result<Option<ReadError>, AllocError> {
+    let file = many_headers(alloc, changes)?;
+    Ok(read(alloc, &file).err())
+}
+
+/// A fault in a late header is told by its number, and one in a later header is not.
 #[test]
 fn late_faults(rt: HostRuntime) -> Result<(), Fail> {
-    for (offset, number) in FAULTS {
-        let file = many_headers(rt.alloc(), &[(offset, number), (LATE + 36, 0xFFFFFFFE)])?;
-        assert_eq!(rt;
-            read(rt.alloc(), &file).err(),
-            Some(ReadError::Fault(ElfFault::Segment(287))),
-            "{number:x} at {offset}"
-        );
+    let late = Some(ReadError::Fault(ElfFault::Segment(287)));
+    for &(offset, number) in FAULTS {
+        let changes = [(offset, number), (LATE + 36, 0xFFFFFFFE)];
+        assert!(rt; fault_with(rt.alloc(), &changes)? == late, "{number:x}");
     }
+    Ok(())
+}
+
+/// A late header beside other segments has no fault.
+#[test]
+fn late_neighbours(rt: HostRuntime) -> Result<(), Fail> {
     for start in [0x20074, 0x2126C, 0x6FFFFFFC, 0xFFFFFFFC] {
-        let file = many_headers(rt.alloc(), &[(LATE + 8, start)])?;
-        assert!(rt; read(rt.alloc(), &file).is_ok(), "at {start:x}");
+        assert!(rt;
+            fault_with(rt.alloc(), &[(LATE + 8, start)])? == None,
+            "{start:x}"
+        );
     }
     Ok(())
 }

@@ -16,4 +16,6 @@ mod machines;
 #[cfg(test)]
 mod regions;
 #[cfg(test)]
+mod runs;
+#[cfg(test)]
 mod words;

@@ -1,8 +1,8 @@
 // A whole executable of another compiler and linker: three segments to be loaded, one of them larger in
 // memory than in the file, and three other program headers.
 
-use rv32_emul::{Machine, Outcome};
-use std::test::Fail;
+use crate::runs::comes_to;
+use rv32_emul::Outcome;
 
 /// From this C, by clang for rv32im and ilp32 with `-Os -ffreestanding -fno-builtin`, and `ld.lld -s`:
 ///
@@ -84,8 +84,9 @@ const LINKED: [u8; 924] = [
 
 /// The value is that of the same C on the machine that compiled it.
 #[test]
-fn linked(rt: HostRuntime) -> Result<(), Fail> {
-    let mut m = Machine::load(rt.alloc(), &LINKED)?;
-    assert_eq!(rt; m.run(100000), Outcome::Exit(-9667));
-    Ok(())
+fn linked(rt: HostRuntime) {
+    assert_eq!(rt;
+        comes_to(rt.alloc(), &LINKED, 0, 100000),
+        Some(Outcome::Exit(-9667))
+    );
 }

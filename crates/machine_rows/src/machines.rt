@@ -1,54 +1,57 @@
 // Machines of small files.
 
-ghost use Rattle.std.specs.Prelude.{◌≤◌, length};
-
-use elf_file::{ReadError, write};
+use crate::runs::words_come_to;
 use rv_isa::FaultKind;
-use rv32_emul::{Machine, Outcome};
-use std::alloc::Global;
-use std::test::Fail;
+use rv32_emul::Outcome;
 
-/// The machine of these words.
-fn machine(alloc: Global, words: &[u32]) -> Result<Machine, ReadError>
-    requires { length words.now ≤ 262144 }
-{
-    let file = write(alloc, words)?;
-    Machine::load(alloc, &file)
+fn fault(kind: FaultKind, at: u32, address: u32) -> Option<Outcome> {
+    Some(Outcome::Fault { kind, at, address })
 }
 
-fn fault(kind: FaultKind, at: u32, address: u32) -> Outcome {
-    Outcome::Fault { kind, at, address }
+fn exit(value: u32) -> Option<Outcome> {
+    Some(Outcome::Exit(u32::cast_signed(value)))
 }
 
-/// A program that returns 7 ends in its fourteenth step, and one that returns the greatest number in its
-/// fifteenth. Behind the end no step is taken.
+/// The words of a program that returns 7, and of one that returns the greatest number.
+const SEVEN: [u32; 15] = [
+    0x00C000EF, 0x05D00893, 0x00000073, 0xFF010113, 0x00012023, 0x00112623, 0x00912423, 0x00700493,
+    0x00048513, 0x0080006F, 0x00000513, 0x00C12083, 0x00812483, 0x01010113, 0x00008067,
+];
+
+const GREATEST: [u32; 16] = [
+    0x00C000EF, 0x05D00893, 0x00000073, 0xFF010113, 0x00012023, 0x00112623, 0x00912423, 0x800004B7,
+    0xFFF48493, 0x00048513, 0x0080006F, 0x00000513, 0x00C12083, 0x00812483, 0x01010113, 0x00008067,
+];
+
+/// A jump to an odd address clears the lowest bit.
+const ODD_JUMP: [u32; 5] = [0x00000397, 0x00D38567, 0x00100073, 0x05D00893, 0x00000073];
+
+/// Stores of one, two and four bytes.
+const STORES: [u32; 8] = [
+    0x123452B7, 0x67828293, 0xFE512C23, 0xFE510DA3, 0xFE511C23, 0xFF812503, 0x05D00893, 0x00000073,
+];
+
+/// Words, how many steps go on, how many come behind them, and the value with which the last one ends.
+const ENDS: &[(&[u32], u64, u64, u32)] = &[
+    (&SEVEN, 0, 14, 7),
+    (&SEVEN, 13, 1, 7),
+    (&GREATEST, 14, 1, 2147483647),
+    (&ODD_JUMP, 0, 4, 0x1005C),
+    (&STORES, 0, 8, 0x78345678),
+];
+
 #[test]
-fn ends(rt: HostRuntime) -> Result<(), Fail> {
-    let seven = [
-        0x00C000EF, 0x05D00893, 0x00000073, 0xFF010113, 0x00012023, 0x00112623, 0x00912423,
-        0x00700493, 0x00048513, 0x0080006F, 0x00000513, 0x00C12083, 0x00812483, 0x01010113,
-        0x00008067,
-    ];
-    let mut m = machine(rt.alloc(), &seven)?;
-    assert_eq!(rt; m.run(14), Outcome::Exit(7));
-    let mut m = machine(rt.alloc(), &seven)?;
-    assert_eq!(rt; m.run(13), Outcome::More);
-    assert_eq!(rt; m.run(0), Outcome::More);
-    assert_eq!(rt; m.run(1), Outcome::Exit(7));
-    assert_eq!(rt; m.run(u64::MAX), Outcome::Exit(7));
-    let greatest = [
-        0x00C000EF, 0x05D00893, 0x00000073, 0xFF010113, 0x00012023, 0x00112623, 0x00912423,
-        0x800004B7, 0xFFF48493, 0x00048513, 0x0080006F, 0x00000513, 0x00C12083, 0x00812483,
-        0x01010113, 0x00008067,
-    ];
-    let mut m = machine(rt.alloc(), &greatest)?;
-    assert_eq!(rt; m.run(14), Outcome::More);
-    assert_eq!(rt; m.run(1), Outcome::Exit(2147483647));
-    Ok(())
+fn ends(rt: HostRuntime) {
+    for &(words, goes_on, steps, value) in ENDS {
+        assert_eq!(rt;
+            words_come_to(rt.alloc(), words, goes_on, steps),
+            exit(value)
+        );
+    }
 }
 
 /// Words that fault, the kind and the address of the fault.
-const FAULTS: [(u32, FaultKind, u32); 11] = [
+const FAULTS: &[(u32, FaultKind, u32)] = &[
     (0x00202283, FaultKind::Misaligned, 2),
     (0x00201283, FaultKind::Load, 2),
     (0x00002283, FaultKind::Load, 0),
@@ -64,23 +67,20 @@ const FAULTS: [(u32, FaultKind, u32); 11] = [
 
 /// Words that fault in their first step at 0x10054, and the kind and address of the fault.
 #[test]
-fn faults(rt: HostRuntime) -> Result<(), Fail> {
-    for (word, kind, address) in FAULTS {
-        let mut m = machine(rt.alloc(), &[word])?;
-        assert_eq!(rt; m.run(1), fault(kind, 0x10054, address), "at {word:08x}");
-        assert_eq!(rt; m.run(1), fault(kind, 0x10054, address), "after {word:08x}");
+fn faults(rt: HostRuntime) {
+    for &(word, kind, address) in FAULTS {
+        let found = words_come_to(rt.alloc(), &[word], 0, 1);
+        assert_eq!(rt; found, fault(kind, 0x10054, address), "at {word:08x}");
     }
-    let mut m = machine(rt.alloc(), &[0x00000067])?;
-    assert_eq!(rt; m.run(1), Outcome::More);
-    assert_eq!(rt; m.run(1), fault(FaultKind::Fetch, 0, 0));
-    // a store into the code
-    let mut m = machine(rt.alloc(), &[0x00000397, 0x0003A023])?;
-    assert_eq!(rt; m.run(2), fault(FaultKind::Store, 0x10058, 0x10054));
-    Ok(())
+    // a jump to 0, and a store into the code
+    let jump = words_come_to(rt.alloc(), &[0x00000067], 1, 1);
+    assert_eq!(rt; jump, fault(FaultKind::Fetch, 0, 0));
+    let store = words_come_to(rt.alloc(), &[0x00000397, 0x0003A023], 0, 2);
+    assert_eq!(rt; store, fault(FaultKind::Store, 0x10058, 0x10054));
 }
 
 /// Four words, how many steps go on, and the fault of the next one: its kind, its pc and its address.
-const LATE_FAULTS: [([u32; 4], u64, FaultKind, u32, u32); 7] = [
+const LATE_FAULTS: &[([u32; 4], u64, FaultKind, u32, u32)] = &[
     // down the stack by 256 KiB a turn: lui t0,0x40; sub sp,sp,t0; sw sp,0(sp); j -8
     (
         [0x000402B7, 0x40510133, 0x00212023, 0xFF9FF06F],
@@ -139,26 +139,18 @@ const LATE_FAULTS: [([u32; 4], u64, FaultKind, u32, u32); 7] = [
     ),
 ];
 
-/// The machine of four words.
-fn machine_of_four(alloc: Global, words: [u32; 4]) -> Result<Machine, ReadError> {
-    machine(alloc, &words)
-}
-
 /// Faults behind steps that go on, in one run and behind a run of just these steps.
 #[test]
-fn late_faults(rt: HostRuntime) -> Result<(), Fail> {
-    for (words, steps, kind, at, address) in LATE_FAULTS {
-        let mut m = machine_of_four(rt.alloc(), words)?;
-        assert_eq!(rt; m.run(steps), Outcome::More, "before {at:x}");
-        assert_eq!(rt; m.run(1), fault(kind, at, address));
-        let mut m = machine_of_four(rt.alloc(), words)?;
-        assert_eq!(rt; m.run(u64::MAX), fault(kind, at, address));
+fn late_faults(rt: HostRuntime) {
+    for &(words, steps, kind, at, address) in LATE_FAULTS {
+        let due = fault(kind, at, address);
+        assert_eq!(rt; words_come_to(rt.alloc(), &words, steps, 1), due);
+        assert_eq!(rt; words_come_to(rt.alloc(), &words, 0, u64::MAX), due);
     }
-    Ok(())
 }
 
 /// Instructions, their two operands and their values.
-const OPERATIONS: [(u32, u32, u32, u32); 57] = [
+const OPERATIONS: &[(u32, u32, u32, u32)] = &[
     (0x00628533, 0xFFFFFFFF, 0x1, 0x0), // add x10,x5,x6
     (0x40628533, 0x0, 0x1, 0xFFFFFFFF), // sub x10,x5,x6
     (0x00629533, 0x1, 0x1F, 0x80000000), // sll x10,x5,x6
@@ -220,23 +212,18 @@ const OPERATIONS: [(u32, u32, u32, u32); 57] = [
 
 /// An instruction on two operands (x5 and x6, which also lie at 24 and 28 behind x7), and its value in x10.
 #[test]
-fn operands(rt: HostRuntime) -> Result<(), Fail> {
-    for (word, x, y, value) in OPERATIONS {
+fn operands(rt: HostRuntime) {
+    for &(word, x, y, value) in OPERATIONS {
         let words = [
             0x00000397, 0x0183A283, 0x01C3A303, word, 0x05D00893, 0x00000073, x, y,
         ];
-        let mut m = machine(rt.alloc(), &words)?;
-        assert_eq!(rt;
-            m.run(6),
-            Outcome::Exit(u32::cast_signed(value)),
-            "{word:08x} of {x:x}, {y:x}"
-        );
+        let found = words_come_to(rt.alloc(), &words, 0, 6);
+        assert_eq!(rt; found, exit(value), "{word:08x}");
     }
-    Ok(())
 }
 
 /// Branches, their two operands, and whether they are taken.
-const BRANCHES: [(u32, u32, u32, bool); 14] = [
+const BRANCHES: &[(u32, u32, u32, bool)] = &[
     (0x00628463, 0x5, 0x5, true), // beq x5, x6, 8
     (0x00628463, 0x5, 0x6, false), // beq x5, x6, 8
     (0x00629463, 0x5, 0x6, true), // bne x5, x6, 8
@@ -255,35 +242,16 @@ const BRANCHES: [(u32, u32, u32, bool); 14] = [
 
 /// A branch on two operands past a breakpoint, and whether it is taken.
 #[test]
-fn branches(rt: HostRuntime) -> Result<(), Fail> {
-    for (word, x, y, taken) in BRANCHES {
+fn branches(rt: HostRuntime) {
+    for &(word, x, y, taken) in BRANCHES {
         let words = [
             0x00000397, 0x01C3A283, 0x0203A303, word, 0x00100073, 0x05D00893, 0x00000073, x, y,
         ];
-        let mut m = machine(rt.alloc(), &words)?;
-        let wanted = if taken {
-            Outcome::Exit(0)
+        let due = if taken {
+            exit(0)
         } else {
             fault(FaultKind::Call, 0x10064, 0x10064)
         };
-        assert_eq!(rt; m.run(6), wanted, "{word:08x} of {x:x}, {y:x}");
+        assert_eq!(rt; words_come_to(rt.alloc(), &words, 0, 6), due, "{word:08x}");
     }
-    Ok(())
-}
-
-/// A jump to an odd address clears the lowest bit. Stores of one, two and four bytes.
-#[test]
-fn jump_and_stores(rt: HostRuntime) -> Result<(), Fail> {
-    let mut m = machine(
-        rt.alloc(),
-        &[0x00000397, 0x00D38567, 0x00100073, 0x05D00893, 0x00000073],
-    )?;
-    assert_eq!(rt; m.run(4), Outcome::Exit(0x1005C));
-    let words = [
-        0x123452B7, 0x67828293, 0xFE512C23, 0xFE510DA3, 0xFE511C23, 0xFF812503, 0x05D00893,
-        0x00000073,
-    ];
-    let mut m = machine(rt.alloc(), &words)?;
-    assert_eq!(rt; m.run(8), Outcome::Exit(0x78345678));
-    Ok(())
 }

@@ -109,25 +109,3 @@ impl Machine {
         }
     }
 }
-
-#[cfg(test)]
-mod tests {
-    use super::*;
-    use elf_file::write;
-    use std::test::Fail;
-
-    /// A jump to half a word faults and leaves the register of its return address as it was.
-    #[test]
-    fn a_fault_writes_no_register(rt: HostRuntime) -> Result<(), Fail> {
-        let file = write(rt.alloc(), &[0x002000EF])?;
-        let mut machine = Machine::load(rt.alloc(), &file)?;
-        let misaligned = Outcome::Fault {
-            kind: FaultKind::Misaligned,
-            at: 0x10054,
-            address: 0x10056,
-        };
-        assert_eq!(rt; machine.run(1), misaligned);
-        assert_eq!(rt; machine.hart.registers[1], 0);
-        Ok(())
-    }
-}

@@ -22,4 +22,4 @@ take-requires-clause-least c =
     let open_yet : covers (cells_at classes next.before next.symbol) next.stack ≡ false =
     subst (λ (ms : List Members). covers (cells_at ms next.before next.symbol) next.stack ≡ false) c.as_slice.ensures.value (c.if-not-is_next.ensures.uncovered refl) in
     subst (λ (x : Claim). IsLeastClaim claims (cells_at classes) x) (sym c.in_ok-claim.ensures)
-    (again_least g.grammar.now g.nullable.now g.first.now g.b g.groups.now c.requires.well_formed c.requires.nullable c.requires.first c.requires.places c.args.stack.now (cells_at classes) claims next c.requires.settling waiting (c.if-not-is_next.ensures.same refl) open_yet)
+    (again_least g.grammar.now g.nullable.now g.first.now g.b g.groups.now c.requires.ground.well_formed c.requires.ground.nullable c.requires.ground.first c.requires.ground.places c.args.stack.now (cells_at classes) claims next c.requires.settling waiting (c.if-not-is_next.ensures.same refl) open_yet)

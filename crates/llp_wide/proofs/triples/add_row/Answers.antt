@@ -1,4 +1,4 @@
-use Rattle.std.proofs.Common.{◌≡◌, ℕ, subst, arith}
+use Rattle.std.proofs.Common.{◌≡◌, ℕ, length, ap, subst, arith}
 use Rattle.ll1_sets.specs.Width.{width_of}
 use Rattle.llp_wide.specs.Triples.{AreTriplesUpTo}
 use Rattle.llp_wide.specs.WideEntries.{triple_place}
@@ -13,6 +13,6 @@ returns c =
     let t = c.loop-a.triples in
     let end = c.loop-a-test.false in
     let bound = c.loop-a.auto.a-end in
-    let same : c.loop-a.a ≡ w = (let e = c.width_of-a-end.ensures.width in omega arith) in
+    let same : c.loop-a.a ≡ w = (let e = ap length c.terminals.ensures.names in omega arith) in
     subst (λ (n : ℕ). AreTriplesUpTo g b c.args.start n t.numbers.items t.pieces.items) (next_row w c.args.z b)
     (subst (λ (a : ℕ). AreTriplesUpTo g b c.args.start (triple_place w c.args.z a b) t.numbers.items t.pieces.items) same c.loop-a.invariant)

@@ -11,7 +11,7 @@ loop-b-preserved c = record { least = c.lesser-best.ensures c.args.grammar.now c
 pub returns-clause-conflict : goal.returns-clause-conflict
 returns-clause-conflict c =
     let g = c.args.grammar.now in
-    let e = c.width_of-b-end.ensures.width in
+    let e = c.width_of-b-end.ensures in
     let end = c.loop-b-test.false in
     let bound = c.loop-b.auto.b-end in
     wide_matched g c.requires.well_formed c.loop-b.b (omega arith) c.loop-b.best c.loop-b.invariant.least
