@@ -7,13 +7,9 @@ ghost use Rattle.word_monoid.specs.Instances.{count};
 ghost use Rattle.par_passes.specs.Passes.{Gives};
 ghost use Rattle.scatter_rows.specs.Scattered.{AreDistinct, IsScattered};
 
-use chunk_seats::{OpenGate, Plan};
-use par_passes::{Lift, Passes, Workers};
+use par_passes::{Lift, Passes};
 use std::alloc::{AllocError, Global};
 use std::marker::Brand;
-use std::process::Abort;
-use std::test::*;
-use std::thread::Threads;
 use word_monoid::Count;
 
 // A function that contracts can name.
@@ -199,116 +195,4 @@ pub(crate) fn placed(
     ensures { IfOk result (λ v. IsScattered places.now values.now (length places.now) v.items) }
 {
     crew.scatter(places, values, places.len() as u64)
-}
-
-// So many workers, with a gate that is open.
-pub(crate) fn crew<R: Threads + Sync>(
-    rt: &R,
-    alloc: Global,
-    workers: u32,
-    chunk: u32,
-) -> Result<Workers<R, OpenGate>, Fail> {
-    Ok(Workers {
-        runtime: rt,
-        alloc,
-        plan: Plan::new(workers, chunk).ok_or("in range")?,
-        gate: &OpenGate,
-    })
-}
-
-fn calls<R: Threads + Abort + Sync>(
-    rt: &R,
-    alloc: Global,
-    workers: u32,
-    chunk: u32,
-) -> Result<(), Fail> {
-    let crew = crew(rt, alloc, workers, chunk)?;
-    let half = halves(&crew, &[2, 4, 7])?;
-    assert!(rt; half.as_slice() == [1, 2, 3].as_slice());
-    let lower = lowered(&crew, &[2, 4, 7])?;
-    assert!(rt; lower.as_slice() == [1, 2, 3].as_slice());
-    let pairs = doubled(&crew, &[5, 6])?;
-    assert!(rt; pairs.as_slice() == [5, 5, 6, 6].as_slice());
-    let high = at_least(&crew, &[5, 1, 7, 3], 4)?;
-    assert!(rt; high.as_slice() == [5, 7].as_slice());
-    assert_eq!(rt; lowest(&crew, &[1026, 5, 2047])?, 2);
-    assert_eq!(rt; lowest_of(&crew, &[1026, 5, 2047])?, 2);
-    assert_eq!(rt; lowest_of(&crew, &[])?, u64::MAX);
-    let begins = starts(&crew, &[])?;
-    assert!(rt; begins.as_slice() == [0].as_slice());
-    let places = places_from(&crew, &[5, 1, 7, 3], 4)?;
-    assert!(rt; places.as_slice() == [0, 2].as_slice());
-    let threes = multiples(&crew, 10, 3)?;
-    assert!(rt; threes.as_slice() == [0, 3, 6, 9].as_slice());
-    assert!(rt; multiples(&crew, 0, 3)?.is_empty());
-    let up = rises(&crew, &[5, 1, 7, 9])?;
-    assert!(rt; up.as_slice() == [0, 6, 2].as_slice());
-    let table = vec![in alloc; 3u32; 1024]?;
-    let class = classes(&crew, table.as_slice(), &[9, 1025])?;
-    assert!(rt; class.as_slice() == [3, 3].as_slice());
-    let cells = placed(&crew, &[1, 0], &[5, 6])?;
-    assert!(rt; cells.as_slice() == [6, 5].as_slice());
-    let moved = in_order(&crew, &[5, 6, 7], &[])?;
-    assert!(rt; moved.is_empty());
-    let up = ascending(&crew, &[])?;
-    assert!(rt; up.is_empty());
-    let kept = at_least(&crew, &[], 4)?;
-    assert!(rt; kept.is_empty());
-    let places = places_from(&crew, &[], 4)?;
-    assert!(rt; places.is_empty());
-    let rise = rises(&crew, &[])?;
-    assert!(rt; rise.is_empty());
-    Ok(())
-}
-
-#[test]
-fn callers_of_every_plan(rt: HostRuntime) -> Result<(), Fail> {
-    for workers in [1, 4, 64] {
-        for chunk in [1, 7, 65536] {
-            calls(&rt, rt.alloc(), workers, chunk)?;
-        }
-    }
-    Ok(())
-}
-
-// The passes over numbers, where all items are found.
-fn numbers<R: Threads + Abort + Sync>(crew: &Workers<R, OpenGate>, n: usize) -> Result<(), Fail>
-    requires { n ≤ 8 }
-{
-    let rt = crew.runtime;
-    let places = places_from(crew, &[7; 8][..n], 7)?;
-    assert!(rt; places.as_slice() == &[0, 1, 2, 3, 4, 5, 6, 7][..n]);
-    let rise = rises(crew, &[1, 2, 4, 7, 11, 16, 22, 29][..n])?;
-    assert!(rt; rise.as_slice() == &[1, 2, 3, 4, 5, 6, 7][..n.saturating_sub(1)]);
-    Ok(())
-}
-
-#[test]
-fn numbers_of_one_chunk_and_one_more(rt: HostRuntime) -> Result<(), Fail> {
-    for workers in [1, 4] {
-        let crew = crew(&rt, rt.alloc(), workers, 7)?;
-        numbers(&crew, 1)?;
-        numbers(&crew, 7)?;
-        numbers(&crew, 8)?;
-    }
-    Ok(())
-}
-
-#[test]
-fn one_chunk_and_one_item_more(rt: HostRuntime) -> Result<(), Fail> {
-    let alloc = rt.alloc();
-    let crew = crew(&rt, alloc, 4, 7)?;
-    for n in [1, 6, 7, 8] {
-        let xs: Vec<u64> = (0..n).rev().collect(alloc)?;
-        let xs = xs.as_slice();
-        let half = halves(&crew, xs)?;
-        assert!(rt; half.iter().zip(xs.iter()).all(|p| *p.0 == *p.1 / 2));
-        let kept = at_least(&crew, xs, 0)?;
-        assert!(rt; kept.as_slice() == xs);
-        assert_eq!(rt; lowest(&crew, xs)?, 0);
-        assert_eq!(rt; starts(&crew, xs)?.len() as u64, n + 1);
-        let up = crew.sorted(xs)?;
-        assert!(rt; up.iter().enumerate().all(|p| *p.1 == p.0 as u64));
-    }
-    Ok(())
 }

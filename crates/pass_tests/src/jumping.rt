@@ -2,14 +2,14 @@
 ghost use Rattle.std.specs.Prelude.{◌≡◌, ◌<◌, true};
 ghost use Rattle.pointer_jumping.specs.Climbs.{AreUpward};
 
-use chunk_seats::{Gate, OpenGate, Plan};
-use par_passes::{Passes, Workers};
+use crate::gates::{PLANS, at, meetings, nobody_told, nobody_yet, told};
+use chunk_seats::OpenGate;
+use par_passes::Passes;
 use pointer_jumping::nearest;
 use scan_lookback::Steps;
-use std::alloc::Global;
+use std::alloc::{AllocError, Global};
 use std::marker::Brand;
 use std::process::Abort;
-use std::sync::atomic::{AtomicU64, Ordering};
 use std::sync::ledger::{Blank, Ledger};
 use std::test::*;
 use std::thread::Threads;
@@ -58,7 +58,11 @@ fn expect(
     Ok(())
 }
 
-const CHAIN: [Option<u32>; 3] = [Some(1), Some(2), None];
+const NONE: Option<u32> = None;
+
+const CHAIN: [Option<u32>; 3] = [Some(1), Some(2), NONE];
+
+const LAST: [bool; 3] = [false, false, true];
 
 // Two trees: the roots are 4, which is marked, and 7, which is not.
 const TREES: [Option<u32>; 8] = [
@@ -66,138 +70,84 @@ const TREES: [Option<u32>; 8] = [
     Some(3),
     Some(3),
     Some(4),
-    None,
+    NONE,
     Some(6),
     Some(7),
-    None,
+    NONE,
 ];
 
 const MARKS: [bool; 8] = [true, true, false, true, true, true, false, false];
 
-fn forests<R: Threads + Abort + Sync>(
-    rt: &R,
-    alloc: Global,
-    workers: u32,
-    chunk: u32,
-) -> Result<(), Fail> {
-    let crew = Workers {
-        runtime: rt,
-        alloc,
-        plan: Plan::new(workers, chunk).ok_or("in range")?,
-        gate: &OpenGate,
-    };
-    let last = [false, false, true];
-    expect(rt, &crew, &CHAIN, &last, &[Some(2), Some(2), None])?;
-    let three = [Some(3), Some(3), Some(3), Some(4), None, None, None, None];
-    expect(rt, &crew, &TREES, &MARKS, &three)?;
-    expect(rt, &crew, &TREES, &[false; 8], &[None; 8])?;
-    expect(rt, &crew, &[], &[], &[])
-}
+const THREE: [Option<u32>; 8] = [Some(3), Some(3), Some(3), Some(4), NONE, NONE, NONE, NONE];
+
+// Parents, marks, and nearest marked ancestors.
+type Forest = (
+    &'static [Option<u32>],
+    &'static [bool],
+    &'static [Option<u32>],
+);
+
+const FORESTS: [Forest; 4] = [
+    (&CHAIN, &LAST, &[Some(2), Some(2), NONE]),
+    (&TREES, &MARKS, &THREE),
+    (&TREES, &[false; 8], &[NONE; 8]),
+    (&[], &[], &[]),
+];
 
 #[test]
 fn the_same_for_every_plan(rt: HostRuntime) -> Result<(), Fail> {
-    for workers in [1, 4, 64] {
-        for chunk in [1, 7, 65536] {
-            forests(&rt, rt.alloc(), workers, chunk)?;
+    for plan in PLANS {
+        let crew = at(&rt, rt.alloc(), plan, &OpenGate)?;
+        for (parents, marks, expected) in FORESTS {
+            expect(&rt, &crew, parents, marks, expected)?;
         }
     }
     Ok(())
 }
 
-// How often a worker found no chunk left: where there is one worker, once in each pass.
-#[derive(Drop)]
-struct Roll {
-    ended: AtomicU64,
-}
-
-impl Gate for Roll {
-    fn after_claim(&self, _worker: u32, chunk: Option<u64>) {
-        if chunk.is_none() {
-            self.ended.fetch_add(1, Ordering::SeqCst);
-        }
-    }
-}
-
-// How many rounds are made: two passes are made before them, one behind them, and two in each.
+// How many rounds are made: two passes are made before them, one behind them, and two in each. One worker tells of the end of each pass.
 fn rounds<R: Threads + Abort + Sync>(
     rt: &R,
     alloc: Global,
     parents: &[Option<u32>],
     marks: &[bool],
 ) -> Result<u64, Fail> {
-    let gate = Roll {
-        ended: AtomicU64::new(0),
-    };
-    let crew = Workers {
-        runtime: rt,
-        alloc,
-        plan: Plan::new(1, 65536).ok_or("in range")?,
-        gate: &gate,
-    };
+    let roll = nobody_told();
+    let crew = at(rt, alloc, (1, 65536), &roll)?;
     let _all = found::<Brand>(&crew, parents, marks, Blank::new(1))?;
-    let passes = gate.ended.load(Ordering::SeqCst);
-    assert!(rt; passes >= 3);
-    assert_eq!(rt; passes % 2, 1);
+    let (passes, _) = told(&roll);
+    assert!(rt; passes >= 3 && passes % 2 == 1);
     Ok((passes - 3) / 2)
+}
+
+// A chain of so many nodes and a root.
+fn chain(alloc: Global, nodes: u32) -> Result<Vec<Option<u32>>, AllocError> {
+    let mut parents = Vec::new(alloc);
+    for node in 0..nodes {
+        parents.push(Some(node.saturating_add(1)))?;
+    }
+    parents.push(None)?;
+    Ok(parents)
 }
 
 #[test]
 fn rounds_are_few(rt: HostRuntime) -> Result<(), Fail> {
-    let alloc = rt.alloc();
-    assert_eq!(rt; rounds(&rt, alloc, &[], &[])?, 0);
-    assert!(rt; rounds(&rt, alloc, &CHAIN, &[false, false, true])? <= 2);
-    let mut parents: Vec<Option<u32>> = (1..1000).map(|k: u32| Some(k)).collect(alloc)?;
-    parents.push(None)?;
-    let mut marks = vec![in alloc; false; 999]?;
-    marks.push(true)?;
-    assert!(rt; rounds(&rt, alloc, parents.as_slice(), marks.as_slice())? <= 10);
+    assert_eq!(rt; rounds(&rt, rt.alloc(), &[], &[])?, 0);
+    assert!(rt; rounds(&rt, rt.alloc(), &CHAIN, &LAST)? <= 2);
+    let parents = chain(rt.alloc(), 999)?;
+    let mut marks = [false; 1000];
+    marks[999] = true;
+    assert!(rt; rounds(&rt, rt.alloc(), &parents, &marks)? <= 10);
     Ok(())
-}
-
-// The first worker that draws chunk 0 waits until the other has drawn too, for so many turns at most.
-#[derive(Drop)]
-struct Meeting {
-    claims: [AtomicU64; 2],
-    met: AtomicU64,
-    alone: AtomicU64,
-}
-
-const TURNS: u64 = 1 << 26;
-
-impl Gate for Meeting {
-    fn after_claim(&self, worker: u32, chunk: Option<u64>) {
-        let (mine, other) = if worker == 0 { (0, 1) } else { (1, 0) };
-        self.claims[mine].fetch_add(1, Ordering::SeqCst);
-        if chunk != Some(0) {
-            return;
-        }
-        for _ in 0..TURNS {
-            if self.claims[other].load(Ordering::SeqCst) > 0 {
-                self.met.fetch_add(1, Ordering::SeqCst);
-                return;
-            }
-        }
-        self.alone.fetch_add(1, Ordering::SeqCst);
-    }
 }
 
 #[test]
 fn two_workers_meet(rt: HostRuntime) -> Result<(), Fail> {
-    let gate = Meeting {
-        claims: [AtomicU64::new(0), AtomicU64::new(0)],
-        met: AtomicU64::new(0),
-        alone: AtomicU64::new(0),
-    };
-    let crew = Workers {
-        runtime: &rt,
-        alloc: rt.alloc(),
-        plan: Plan::new(2, 1).ok_or("in range")?,
-        gate: &gate,
-    };
-    let marks = [false, false, true];
-    expect(&rt, &crew, &CHAIN, &marks, &[Some(2), Some(2), None])?;
+    let gate = nobody_yet();
+    let crew = at(&rt, rt.alloc(), (2, 1), &gate)?;
+    expect(&rt, &crew, &CHAIN, &LAST, FORESTS[0].2)?;
     // somebody drew chunk 0, and nobody gave up
-    assert!(rt; gate.met.load(Ordering::SeqCst) > 0);
-    assert_eq!(rt; gate.alone.load(Ordering::SeqCst), 0);
+    let (met, alone) = meetings(&gate);
+    assert!(rt; met > 0 && alone == 0);
     Ok(())
 }

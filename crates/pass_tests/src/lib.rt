@@ -4,6 +4,10 @@
 #[cfg(test)]
 mod callers;
 #[cfg(test)]
+mod examples;
+#[cfg(test)]
+mod gates;
+#[cfg(test)]
 mod jumping;
 #[cfg(test)]
 mod minima;
