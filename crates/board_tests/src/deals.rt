@@ -111,19 +111,3 @@ fn swaps<N: Goods<u64>>(rt: &impl Abort, alloc: Global) -> Result<(), Fail>
 fn one_item_is_replaced(rt: HostRuntime) -> Result<(), Fail> {
     swaps::<Brand>(&rt, rt.alloc())
 }
-
-fn none<N: Goods<u64>>(rt: &impl Abort, alloc: Global) -> Result<(), Fail>
-    requires items { N.items ≡ [] }
-{
-    let Ok((board, mut seat)) = DealBoard::<u64, N>::new(alloc, Vec::new(alloc), 1) else {
-        return Err("no memory".into());
-    };
-    assert_eq!(rt; board.deal(&mut seat), None);
-    assert_eq!(rt; board.close(seat).take_next(), None);
-    Ok(())
-}
-
-#[test]
-fn an_empty_board(rt: HostRuntime) -> Result<(), Fail> {
-    none::<Brand>(&rt, rt.alloc())
-}

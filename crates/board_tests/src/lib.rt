@@ -8,6 +8,8 @@ mod claims;
 #[cfg(test)]
 mod deals;
 #[cfg(test)]
+mod gates;
+#[cfg(test)]
 mod monoids;
 #[cfg(test)]
 mod parts;
@@ -19,3 +21,5 @@ mod scatters;
 mod schedules;
 #[cfg(test)]
 mod status_boards;
+#[cfg(test)]
+mod workers;

@@ -3,7 +3,6 @@ ghost use Rattle.std.specs.Prelude.{◌≡◌, ◌+◌, ◌<◌, [], ◌∷◌};
 ghost use Rattle.word_monoid.specs.Instances.{count};
 ghost use Rattle.scan_lookback.specs.Named.{Names};
 
-use chunk_seats::{ClaimBoard, OpenGate, Plan};
 use scan_lookback::{Chunks, Count, Look, ScanBoard, Seat, Steps, Unseen};
 use std::alloc::{AllocError, Global};
 use std::marker::Brand;
@@ -89,45 +88,6 @@ fn looks_back<N: Chunks<u64>, L: Ledger>(
 #[test]
 fn two_loads(rt: HostRuntime) -> Result<(), Fail> {
     looks_back::<Brand, Brand>(&rt, rt.alloc(), Blank::new(1))
-}
-
-fn works<N: Chunks<u64>>(rt: &impl Abort, alloc: Global) -> Result<(), Fail>
-    requires items { N.items ≡ 3 ∷ 1 ∷ 4 ∷ 1 ∷ 5 ∷ [] }
-    requires sums { N.sums ≡ 4 ∷ 5 ∷ 5 ∷ [] }
-    requires names { Names count N.sums N.sum_codes N.prefix_codes }
-{
-    let plan = Plan::new(1, 2).ok_or("in range")?;
-    let (claims, mut mine) = ClaimBoard::new(alloc, 3, 1)?;
-    let (board, mut seat) = ScanBoard::<Count, N>::new(alloc, &Count, 3, 1)?;
-    let items = [3, 1, 4, 1, 5];
-    let all = board.work(
-        alloc,
-        &mut seat,
-        &claims,
-        &mut mine,
-        &plan,
-        &OpenGate,
-        0,
-        &items,
-        &|x: u64| x,
-    )?;
-    assert_eq!(rt; all.len(), 3);
-    for (c, list) in all {
-        let due: &[u64] = match c {
-            0 => &[0, 3],
-            1 => &[4, 8],
-            _ => &[9],
-        };
-        assert!(rt; list.as_slice() == due);
-    }
-    board.close(seat);
-    claims.close(mine);
-    Ok(())
-}
-
-#[test]
-fn one_seat_works(rt: HostRuntime) -> Result<(), Fail> {
-    works::<Brand>(&rt, rt.alloc())
 }
 
 fn asks<N: Chunks<u64>>(board: &ScanBoard<Count, N>, mut seat: Seat) -> u64
