@@ -1,5 +1,6 @@
 // Calls of the program over memory: reads give at most ten bytes, and a write takes one.
 
+use crate::seven::{SEVEN, SEVEN_FILE, SEVEN_LISTING};
 use chunk_seats::OpenGate;
 use pareas_core::{MemoryIn, MemoryOut, Status, pareas};
 use std::alloc::{AllocError, Global};
@@ -8,6 +9,35 @@ use std::thread::Threads;
 
 /// Room for more bytes than any of these calls writes.
 pub const ROOM: usize = 1 << 16;
+
+pub const GRAMMAR: &[u8] = b"S -> a S b\nS ->\n";
+
+/// Calls that have a result: the words, the input, how many reads are made of it, and the result.
+pub const RESULTS: &[(&[&str], &[u8], u64, &[u8])] = &[
+    (&["build"], SEVEN, 4, &SEVEN_FILE),
+    (&["run"], SEVEN, 4, b"exit 7\n"),
+    (&["emu"], &SEVEN_FILE, 16, b"exit 7\n"),
+    (&["dump"], &SEVEN_FILE, 16, SEVEN_LISTING),
+    (&["asm"], SEVEN_LISTING, 23, &SEVEN_FILE),
+    (
+        &["table"],
+        GRAMMAR,
+        3,
+        b"terminals 2\nnonterminals 1\nproductions 2\nentries 6\n",
+    ),
+    (
+        &["table", "--word", "a b"],
+        GRAMMAR,
+        3,
+        b"terminals 2\nnonterminals 1\nproductions 2\nentries 6\nparse 1 2\n",
+    ),
+    (
+        &["drill", "--seed", "1", "--functions", "1"],
+        SEVEN,
+        0,
+        b"source 144\ntokens 61\nimage 296\nexit 650\n",
+    ),
+];
 
 /// The words behind the program's name, and the bytes of the input.
 #[derive(Clone, Copy)]

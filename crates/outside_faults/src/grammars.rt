@@ -58,9 +58,9 @@ fn files_past_a_limit(rt: HostRuntime) -> Result<(), Fail> {
         (of_terminals(alloc, 256)?, "grammar symbols\n"),
         (repeated(alloc, b"S -> a\n", 513)?, "grammar productions\n"),
     ];
-    for (file, line) in rows {
+    for (file, line) in &rows {
         let refusal = refused(Status::BadGrammar, line.as_bytes());
-        expect_of(&rt, alloc, &file, refusal)?;
+        expect_of(&rt, alloc, file, refusal)?;
     }
     Ok(())
 }

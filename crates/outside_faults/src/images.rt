@@ -45,31 +45,57 @@ const MEMORY_SIZE: usize = 72;
 
 const FLAGS: usize = 76;
 
-#[test]
-fn headers_that_no_image_has(rt: HostRuntime) -> Result<(), Fail> {
-    let rows: [(usize, u32, &[u8]); 10] = [
-        (HEADERS, 65_535, b"image Segment 2\n"),
-        (HEADERS, 0, b"image Entry\n"),
-        (MEMORY_SIZE, 0, b"image Entry\n"),
-        (FLAGS, 4, b"image Entry\n"),
-        (ENTRY, 0x0001_0056, b"image Entry\n"),
-        (TABLE, 0xFFFF_FFFF, b"image Segment 0\n"),
-        (FILE_SIZE, 0xFFFF_FFFF, b"image Segment 0\n"),
-        (START, 0xFFFF_FFF0, b"image Segment 0\n"),
-        (START, 0x700F_FFF0, b"image Segment 0\n"),
-        (MEMORY_SIZE, 0x0400_0001, b"image Segment 0\n"),
-    ];
-    for (place, number, line) in rows {
-        let file = with_number(place, number.to_le_bytes());
-        expect_of(&rt, rt.alloc(), &file, refused(Status::BadImage, line))?;
-    }
-    Ok(())
-}
+/// Where a number is changed, to what, the status, the result and the notes. The last segment has 64 MiB.
+const CHANGES: &[(usize, u32, Status, &[u8], &[u8])] = &[
+    (HEADERS, 65_535, Status::BadImage, b"", b"image Segment 2\n"),
+    (HEADERS, 0, Status::BadImage, b"", b"image Entry\n"),
+    (MEMORY_SIZE, 0, Status::BadImage, b"", b"image Entry\n"),
+    (FLAGS, 4, Status::BadImage, b"", b"image Entry\n"),
+    (ENTRY, 0x0001_0056, Status::BadImage, b"", b"image Entry\n"),
+    (
+        TABLE,
+        0xFFFF_FFFF,
+        Status::BadImage,
+        b"",
+        b"image Segment 0\n",
+    ),
+    (
+        FILE_SIZE,
+        0xFFFF_FFFF,
+        Status::BadImage,
+        b"",
+        b"image Segment 0\n",
+    ),
+    (
+        START,
+        0xFFFF_FFF0,
+        Status::BadImage,
+        b"",
+        b"image Segment 0\n",
+    ),
+    (
+        START,
+        0x700F_FFF0,
+        Status::BadImage,
+        b"",
+        b"image Segment 0\n",
+    ),
+    (
+        MEMORY_SIZE,
+        0x0400_0001,
+        Status::BadImage,
+        b"",
+        b"image Segment 0\n",
+    ),
+    (MEMORY_SIZE, 0x0400_0000, Status::Done, b"exit 7\n", b""),
+];
 
 #[test]
-fn a_segment_of_64_mebibytes(rt: HostRuntime) -> Result<(), Fail> {
-    let file = with_number(MEMORY_SIZE, [0, 0, 0, 4]);
-    expect_of(&rt, rt.alloc(), &file, done(b"exit 7\n"))?;
+fn changed_headers(rt: HostRuntime) -> Result<(), Fail> {
+    for &(place, number, status, out, notes) in CHANGES {
+        let file = with_number(place, number.to_le_bytes());
+        expect_of(&rt, rt.alloc(), &file, Answer { status, out, notes })?;
+    }
     Ok(())
 }
 

@@ -153,8 +153,8 @@ fn reads_up_to_one_byte_past_the_limit(rt: HostRuntime) -> Result<(), Fail> {
             b"grammar too large\n",
         ),
     ];
-    for row in rows {
-        expect_reads(&rt, rt.alloc(), row)?;
+    for row in &rows {
+        expect_reads(&rt, rt.alloc(), *row)?;
     }
     Ok(())
 }
@@ -203,7 +203,7 @@ fn expect_writes<R: Threads + Abort + Sync>(
 
 #[test]
 fn writes_hand_over_all_that_is_left(rt: HostRuntime) -> Result<(), Fail> {
-    let rows: [(&[&str], &[u8], (usize, u64), (usize, u64)); 7] = [
+    let rows: &[(&[&str], &[u8], (usize, u64), (usize, u64))] = &[
         (&["build"], SEVEN, (144, 15), (0, 0)),
         (&["run"], SEVEN, (7, 1), (0, 0)),
         (&["emu"], &SEVEN_FILE, (7, 1), (0, 0)),
@@ -217,7 +217,7 @@ fn writes_hand_over_all_that_is_left(rt: HostRuntime) -> Result<(), Fail> {
         (&["build"], b"", (0, 0), (17, 2)),
         (&["--version"], b"", (0, 0), (13, 2)),
     ];
-    for (words, input, out, notes) in rows {
+    for &(words, input, out, notes) in rows {
         expect_writes(&rt, rt.alloc(), Call { words, input }, out, notes)?;
     }
     Ok(())
