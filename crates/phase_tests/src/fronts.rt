@@ -1,8 +1,9 @@
 //! Sources and their first diagnostics, and the rows of one, for every plan.
-use chunk_seats::{OpenGate, Plan};
+use crate::gates::{PLANS, at};
+use chunk_seats::OpenGate;
 use front_end::{Refusal, front};
 use limits::MOST_SOURCE;
-use par_passes::{Passes, Workers};
+use par_passes::Passes;
 use std::alloc::Global;
 use std::process::Abort;
 use std::test::*;
@@ -101,34 +102,28 @@ const ACCEPTED: [(&[u8], usize); 4] = [
     (b"fn main(): int { if true { } else { } return 0; }", 9),
 ];
 
-// Sees that the source has this diagnostic, and no other answer.
-fn expect<R: Threads + Abort + Sync>(
-    rt: &R,
-    crew: &impl Passes,
-    (source, code, at): Diagnosed,
-) -> Result<(), Fail> {
+// Why a source is refused, if it is.
+fn refusal(crew: &impl Passes, source: &[u8]) -> Option<Refusal> {
     match front(crew, source) {
-        Ok(_) => assert!(rt; false),
-        Err(refusal) => assert_eq!(rt; refusal, Refusal::Diagnostic { code, at }),
+        Ok(_) => None,
+        Err(refusal) => Some(refusal),
     }
-    Ok(())
 }
 
-fn all<R: Threads + Abort + Sync>(
+// Sees that each source has its diagnostic, and no other answer.
+fn expect<R: Threads + Abort + Sync>(
     rt: &R,
     alloc: Global,
-    workers: u32,
-    chunk: u32,
+    plan: (u32, u32),
     sources: &[Diagnosed],
 ) -> Result<(), Fail> {
-    let crew = Workers {
-        runtime: rt,
-        alloc,
-        plan: Plan::new(workers, chunk).ok_or("in range")?,
-        gate: &OpenGate,
-    };
-    for source in sources {
-        expect(rt, &crew, *source)?;
+    let crew = at(rt, alloc, plan, &OpenGate)?;
+    for (source, code, place) in sources {
+        let told = Refusal::Diagnostic {
+            code: *code,
+            at: *place,
+        };
+        assert!(rt; refusal(&crew, source) == Some(told));
     }
     Ok(())
 }
@@ -142,8 +137,8 @@ fn each_phase_has_its_diagnostics(rt: HostRuntime) -> Result<(), Fail> {
         OF_SCOPE.as_slice(),
         OF_TYPING.as_slice(),
     ] {
-        all(&rt, rt.alloc(), 1, 1024, phase)?;
-        all(&rt, rt.alloc(), 4, 1, phase)?;
+        expect(&rt, rt.alloc(), (1, 1024), phase)?;
+        expect(&rt, rt.alloc(), (4, 1), phase)?;
     }
     Ok(())
 }
@@ -157,67 +152,50 @@ fn one_source_of_each_phase_for_every_plan(rt: HostRuntime) -> Result<(), Fail> 
         OF_SCOPE[3],
         OF_TYPING[1],
     ];
-    for workers in [1, 4, 64] {
-        for chunk in [1, 7, 65536] {
-            all(&rt, rt.alloc(), workers, chunk, &sources)?;
-        }
+    for plan in PLANS {
+        expect(&rt, rt.alloc(), plan, &sources)?;
     }
     Ok(())
 }
 
 #[test]
 fn sources_have_rows(rt: HostRuntime) -> Result<(), Fail> {
-    let crew = Workers {
-        runtime: &rt,
-        alloc: rt.alloc(),
-        plan: Plan::new(4, 1).ok_or("in range")?,
-        gate: &OpenGate,
-    };
+    let crew = at(&rt, rt.alloc(), (4, 1), &OpenGate)?;
     for (source, count) in ACCEPTED {
         match front(&crew, source) {
             Ok(found) => assert_eq!(rt; found.rows.len(), count),
             Err(_) => assert!(rt; false),
         }
     }
-    match front(&crew, ACCEPTED[0].0) {
-        Ok(found) => assert!(rt; found.rows.parents() == [2, 2, 4, 4, 5, 6, 7, 8, 8].as_slice()),
-        Err(_) => assert!(rt; false),
-    }
     Ok(())
+}
+
+// Why so many spaces and more are refused.
+fn spaces_are_refused<R: Threads + Sync>(
+    rt: &R,
+    alloc: Global,
+    count: usize,
+) -> Result<Option<Refusal>, Fail> {
+    let crew = at(rt, alloc, (4, 1024), &OpenGate)?;
+    let spaces = vec![in alloc; b' '; count]?;
+    Ok(refusal(&crew, &spaces))
 }
 
 #[test]
 fn sources_have_a_limit(rt: HostRuntime) -> Result<(), Fail> {
-    let crew = Workers {
-        runtime: &rt,
-        alloc: rt.alloc(),
-        plan: Plan::new(4, 1024).ok_or("in range")?,
-        gate: &OpenGate,
+    let told = spaces_are_refused(&rt, rt.alloc(), MOST_SOURCE)?;
+    let no_main = Refusal::Diagnostic {
+        code: 405,
+        at: 1_048_576,
     };
-    let mut spaces = vec![in rt.alloc(); b' '; MOST_SOURCE]?;
-    expect(&rt, &crew, (b"", 405, 0))?;
-    match front(&crew, spaces.as_slice()) {
-        Ok(_) => assert!(rt; false),
-        Err(refusal) => assert_eq!(rt;
-            refusal,
-            Refusal::Diagnostic {
-                code: 405,
-                at: 1_048_576
-            }
-        ),
-    }
-    spaces.push(b' ')?;
-    match front(&crew, spaces.as_slice()) {
-        Ok(_) => assert!(rt; false),
-        Err(refusal) => assert_eq!(rt;
-            refusal,
-            Refusal::Limit {
-                code: 601,
-                at: 1_048_576,
-                bytes: 1_048_577
-            }
-        ),
-    }
+    assert!(rt; told == Some(no_main));
+    let told = spaces_are_refused(&rt, rt.alloc(), MOST_SOURCE + 1)?;
+    let limit = Refusal::Limit {
+        code: 601,
+        at: 1_048_576,
+        bytes: 1_048_577,
+    };
+    assert!(rt; told == Some(limit));
     Ok(())
 }
 
@@ -243,7 +221,7 @@ fn repeated(
 }
 
 // A function main that declares so many variables, each of another name, and uses the last one.
-fn many_names(alloc: Global, count: u32) -> Result<Vec<u8>, Fail> {
+pub(crate) fn many_names(alloc: Global, count: u32) -> Result<Vec<u8>, Fail> {
     let mut text = b"fn main(): int { var x: int = 0; ".to_vec(alloc)?;
     for n in 0..count {
         let declaration = format!(in alloc; "var x{n}: int = x; ")?;
@@ -264,66 +242,69 @@ fn long_names(alloc: Global) -> Result<Vec<u8>, Fail> {
     Ok(text)
 }
 
+// Why a source that is made is refused, if it is, with four workers.
+fn refused<R: Threads + Sync>(
+    rt: &R,
+    alloc: Global,
+    source: &[u8],
+) -> Result<Option<Refusal>, Fail> {
+    let crew = at(rt, alloc, (4, 1024), &OpenGate)?;
+    Ok(refusal(&crew, source))
+}
+
+const OUTER: &[u8] = b"var x: int = 1; ";
+
 #[test]
 fn names_in_great_numbers(rt: HostRuntime) -> Result<(), Fail> {
     let alloc = rt.alloc();
-    let crew = Workers {
-        runtime: &rt,
-        alloc,
-        plan: Plan::new(4, 1024).ok_or("in range")?,
-        gate: &OpenGate,
-    };
-    let nested = repeated(
-        alloc,
-        b"var x: int = 1; ",
-        b"{ var x: int = x; ",
-        1_000,
-        b"} ",
-        1_000,
-    )?;
-    let apart = repeated(
-        alloc,
-        b"var x: int = 1; ",
-        b"{ var x: int = x; } ",
-        20_000,
-        b"",
-        0,
-    )?;
+    let nested = repeated(alloc, OUTER, b"{ var x: int = x; ", 1_000, b"} ", 1_000)?;
+    assert!(rt; refused(&rt, alloc, &nested)?.is_none());
+    let apart = repeated(alloc, OUTER, b"{ var x: int = x; } ", 20_000, b"", 0)?;
+    assert!(rt; refused(&rt, alloc, &apart)?.is_none());
     let many = many_names(alloc, 20_000)?;
-    for source in [nested.as_slice(), apart.as_slice(), many.as_slice()] {
-        match front(&crew, source) {
-            Ok(_) => {}
-            Err(_) => assert!(rt; false),
-        }
-    }
+    assert!(rt; refused(&rt, alloc, &many)?.is_none());
+    Ok(())
+}
+
+#[test]
+fn the_first_fault_of_many_names(rt: HostRuntime) -> Result<(), Fail> {
+    let alloc = rt.alloc();
     let again = repeated(
         alloc,
-        b"var x: int = 1; ",
+        OUTER,
         b"{ var x: int = x; } ",
         20_000,
         b"var x: int = 2; ",
         1,
     )?;
-    match front(&crew, again.as_slice()) {
-        Ok(_) => assert!(rt; false),
-        Err(refusal) => assert_eq!(rt;
-            refusal,
-            Refusal::Diagnostic {
-                code: 402,
-                at: 400_037
-            }
-        ),
-    }
+    let declared_twice = Refusal::Diagnostic {
+        code: 402,
+        at: 400_037,
+    };
+    assert!(rt; refused(&rt, alloc, &again)? == Some(declared_twice));
     let long = long_names(alloc)?;
-    match front(&crew, long.as_slice()) {
-        Ok(_) => assert!(rt; false),
-        Err(refusal) => assert_eq!(rt;
-            refusal,
-            Refusal::Diagnostic {
-                code: 403,
-                at: 1_039
-            }
-        ),
+    let undeclared = Refusal::Diagnostic {
+        code: 403,
+        at: 1_039,
+    };
+    assert!(rt; refused(&rt, alloc, &long)? == Some(undeclared));
+    Ok(())
+}
+
+// A function main that calls itself with so many arguments and one more.
+fn many_arguments(alloc: Global, count: u32) -> Result<Vec<u8>, Fail> {
+    let mut text = b"fn main(): int { return main[".to_vec(alloc)?;
+    for _ in 0..count {
+        text.extend_from_slice(b"1,")?;
     }
+    text.extend_from_slice(b"1]; }")?;
+    Ok(text)
+}
+
+#[test]
+fn many_arguments_are_too_many(rt: HostRuntime) -> Result<(), Fail> {
+    let source = many_arguments(rt.alloc(), 99_999)?;
+    let too_many = Refusal::Diagnostic { code: 502, at: 24 };
+    assert!(rt; refused(&rt, rt.alloc(), &source)? == Some(too_many));
     Ok(())
 }

@@ -2,16 +2,16 @@
 #![tactic(auto)]
 
 #[cfg(test)]
-mod columns;
+mod analyses;
 #[cfg(test)]
-mod frames;
+mod columns;
 #[cfg(test)]
 mod fronts;
 #[cfg(test)]
-mod names;
+mod gates;
+#[cfg(test)]
+mod lexemes;
 #[cfg(test)]
 mod shapes;
-#[cfg(test)]
-mod types;
 #[cfg(test)]
 mod words;

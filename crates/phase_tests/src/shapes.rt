@@ -1,13 +1,13 @@
 //! The rows of sources, their faults of shape, and sources that are deep or long.
+use crate::gates::{PLANS, at, drawn, have_met, no_draws, nobody_yet};
 use ast_rows::Rows;
-use chunk_seats::{Gate, OpenGate, Plan};
-use front_end::{Refusal, front, language_tables, lexed, parsed};
+use chunk_seats::OpenGate;
+use front_end::{language_tables, lexed, parsed};
 use limits::MOST_SOURCE;
-use par_passes::{Passes, Workers};
+use par_passes::Passes;
 use source_meaning::{BinaryOp, Kind, UnaryOp, ValueType};
 use std::alloc::Global;
 use std::process::Abort;
-use std::sync::atomic::{AtomicU64, Ordering};
 use std::test::*;
 use std::thread::Threads;
 use tree_passes::{ShapeFault, rows};
@@ -204,223 +204,129 @@ const FAULTS: [Misshapen; 6] = [
     ),
 ];
 
-fn all<R: Threads + Abort + Sync>(
-    rt: &R,
-    alloc: Global,
-    workers: u32,
-    chunk: u32,
-    shapes: &[Shaped],
-    faults: &[Misshapen],
-) -> Result<(), Fail> {
-    let crew = Workers {
-        runtime: rt,
-        alloc,
-        plan: Plan::new(workers, chunk).ok_or("in range")?,
-        gate: &OpenGate,
-    };
-    for (source, kinds, parents) in shapes {
-        expect_rows(rt, &crew, source, kinds, parents)?;
-    }
-    for (source, code, at) in faults {
-        expect_fault(rt, &crew, source, *code, *at)?;
-    }
-    Ok(())
-}
-
 #[test]
 fn each_shape_has_its_rows(rt: HostRuntime) -> Result<(), Fail> {
-    all(&rt, rt.alloc(), 1, 1024, &SHAPES, &FAULTS)?;
-    all(&rt, rt.alloc(), 4, 1, &SHAPES, &FAULTS)
+    for plan in [(1, 1024), (4, 1)] {
+        let crew = at(&rt, rt.alloc(), plan, &OpenGate)?;
+        for (source, kinds, parents) in SHAPES {
+            expect_rows(&rt, &crew, source, kinds, parents)?;
+        }
+        for (source, code, token) in FAULTS {
+            expect_fault(&rt, &crew, source, code, token)?;
+        }
+    }
+    Ok(())
 }
 
 #[test]
 fn one_shape_for_every_plan(rt: HostRuntime) -> Result<(), Fail> {
-    for workers in [1, 4, 64] {
-        for chunk in [1, 7, 65536] {
-            all(&rt, rt.alloc(), workers, chunk, &[LEFT], &[FAULTS[0]])?;
-        }
+    for plan in PLANS {
+        let crew = at(&rt, rt.alloc(), plan, &OpenGate)?;
+        expect_rows(&rt, &crew, LEFT.0, LEFT.1, LEFT.2)?;
+        expect_fault(&rt, &crew, FAULTS[0].0, FAULTS[0].1, FAULTS[0].2)?;
     }
     Ok(())
 }
 
-// So many copies of a piece, and then of another, between a beginning, a middle and an end.
-fn nested(
-    alloc: Global,
-    beginning: &[u8],
-    (piece, middle, closing): (&[u8], &[u8], &[u8]),
+// So many copies of a piece, and then of another, between a beginning, a middle and an end, and how many rows that source has.
+#[derive(Clone, Copy)]
+struct Long {
+    beginning: &'static [u8],
+    piece: &'static [u8],
+    middle: &'static [u8],
+    closing: &'static [u8],
+    end: &'static [u8],
     count: u32,
-    end: &[u8],
-) -> Result<Vec<u8>, Fail> {
-    let mut text = beginning.to_vec(alloc)?;
-    for _ in 0..count {
-        text.extend_from_slice(piece)?;
+    rows: usize,
+}
+
+const PARENTHESES_IN_GREAT_DEPTH: Long = Long {
+    beginning: b"fn main(): int { return ",
+    piece: b"(",
+    middle: b"1",
+    closing: b")",
+    end: b"; }",
+    count: 100_000,
+    rows: 5,
+};
+
+const BLOCKS_IN_GREAT_DEPTH: Long = Long {
+    beginning: b"fn main(): int {",
+    piece: b"{",
+    middle: b"",
+    closing: b"}",
+    end: b"}",
+    count: 100_000,
+    rows: 100_003,
+};
+
+const ASSIGNMENTS_IN_A_LONG_CHAIN: Long = Long {
+    beginning: b"fn main(): int { var x: int = 0; ",
+    piece: b"x = ",
+    middle: b"1",
+    closing: b"",
+    end: b"; }",
+    count: 20_000,
+    rows: 40_007,
+};
+
+const MANY_ARGUMENTS: Long = Long {
+    beginning: b"fn main(): int { return main[",
+    piece: b"1,",
+    middle: b"1",
+    closing: b"",
+    end: b"]; }",
+    count: 19_999,
+    rows: 20_005,
+};
+
+fn text_of(alloc: Global, long: &Long) -> Result<Vec<u8>, Fail> {
+    let mut text = long.beginning.to_vec(alloc)?;
+    for _ in 0..long.count {
+        text.extend_from_slice(long.piece)?;
     }
-    text.extend_from_slice(middle)?;
-    for _ in 0..count {
-        text.extend_from_slice(closing)?;
+    text.extend_from_slice(long.middle)?;
+    for _ in 0..long.count {
+        text.extend_from_slice(long.closing)?;
     }
-    text.extend_from_slice(end)?;
+    text.extend_from_slice(long.end)?;
     Ok(text)
 }
 
-// How many rows a source has, with four workers.
-fn count_rows<R: Threads + Sync>(rt: &R, alloc: Global, source: &[u8]) -> Result<usize, Fail> {
-    let crew = Workers {
-        runtime: rt,
-        alloc,
-        plan: Plan::new(4, 1024).ok_or("in range")?,
-        gate: &OpenGate,
-    };
-    match front(&crew, source) {
-        Ok(found) => Ok(found.rows.len()),
-        Err(_) => Err("a refusal".into()),
+// How many rows a source has, if it has no fault of shape.
+fn count_rows(crew: &impl Passes, source: &[u8]) -> Result<Option<usize>, Fail> {
+    match shape(crew, crew, source)? {
+        Ok(found) => Ok(Some(found.len())),
+        Err(_) => Ok(None),
     }
 }
 
 #[test]
-fn parentheses_in_great_depth(rt: HostRuntime) -> Result<(), Fail> {
-    let alloc = rt.alloc();
-    let pieces = (b"(".as_slice(), b"1".as_slice(), b")".as_slice());
-    let source = nested(alloc, b"fn main(): int { return ", pieces, 100_000, b"; }")?;
-    assert_eq!(rt; count_rows(&rt, alloc, source.as_slice())?, 5);
-    Ok(())
-}
-
-#[test]
-fn blocks_in_great_depth(rt: HostRuntime) -> Result<(), Fail> {
-    let alloc = rt.alloc();
-    let pieces = (b"{".as_slice(), b"".as_slice(), b"}".as_slice());
-    let source = nested(alloc, b"fn main(): int {", pieces, 100_000, b"}")?;
-    assert_eq!(rt; count_rows(&rt, alloc, source.as_slice())?, 100_003);
-    Ok(())
-}
-
-#[test]
-fn assignments_in_a_long_chain(rt: HostRuntime) -> Result<(), Fail> {
-    let alloc = rt.alloc();
-    let pieces = (b"x = ".as_slice(), b"1".as_slice(), b"".as_slice());
-    let beginning = b"fn main(): int { var x: int = 0; ";
-    let source = nested(alloc, beginning, pieces, 20_000, b"; }")?;
-    assert_eq!(rt; count_rows(&rt, alloc, source.as_slice())?, 40_007);
-    Ok(())
-}
-
-// A function main that calls itself with so many arguments and one more.
-fn many_arguments(alloc: Global, count: u32) -> Result<Vec<u8>, Fail> {
-    let pieces = (b"1,".as_slice(), b"1".as_slice(), b"".as_slice());
-    nested(
-        alloc,
-        b"fn main(): int { return main[",
-        pieces,
-        count,
-        b"]; }",
-    )
-}
-
-#[test]
-fn many_arguments_have_rows(rt: HostRuntime) -> Result<(), Fail> {
-    let alloc = rt.alloc();
-    let source = many_arguments(alloc, 19_999)?;
-    let crew = Workers {
-        runtime: &rt,
-        alloc,
-        plan: Plan::new(4, 1024).ok_or("in range")?,
-        gate: &OpenGate,
-    };
-    match shape(&crew, &crew, source.as_slice())? {
-        Ok(found) => assert_eq!(rt; found.len(), 20_005),
-        Err(_) => assert!(rt; false),
+fn deep_and_long_sources_have_rows(rt: HostRuntime) -> Result<(), Fail> {
+    let crew = at(&rt, rt.alloc(), (4, 1024), &OpenGate)?;
+    for long in [
+        PARENTHESES_IN_GREAT_DEPTH,
+        BLOCKS_IN_GREAT_DEPTH,
+        ASSIGNMENTS_IN_A_LONG_CHAIN,
+        MANY_ARGUMENTS,
+    ] {
+        let source = text_of(rt.alloc(), &long)?;
+        assert_eq!(rt; count_rows(&crew, &source)?, Some(long.rows));
     }
     Ok(())
-}
-
-#[test]
-fn many_arguments_are_too_many(rt: HostRuntime) -> Result<(), Fail> {
-    let alloc = rt.alloc();
-    let source = many_arguments(alloc, 99_999)?;
-    let crew = Workers {
-        runtime: &rt,
-        alloc,
-        plan: Plan::new(4, 1024).ok_or("in range")?,
-        gate: &OpenGate,
-    };
-    match front(&crew, source.as_slice()) {
-        Ok(_) => assert!(rt; false),
-        Err(refusal) => assert_eq!(rt; refusal, Refusal::Diagnostic { code: 502, at: 24 }),
-    }
-    Ok(())
-}
-
-// The first worker that draws chunk 0 waits until the other has drawn too, for so many turns at most.
-#[derive(Drop)]
-struct Meeting {
-    claims: [AtomicU64; 2],
-    met: AtomicU64,
-    alone: AtomicU64,
-}
-
-const TURNS: u64 = 1 << 26;
-
-impl Gate for Meeting {
-    fn after_claim(&self, worker: u32, chunk: Option<u64>) {
-        let (mine, other) = if worker == 0 { (0, 1) } else { (1, 0) };
-        self.claims[mine].fetch_add(1, Ordering::SeqCst);
-        if chunk != Some(0) {
-            return;
-        }
-        for _ in 0..TURNS {
-            if self.claims[other].load(Ordering::SeqCst) > 0 {
-                self.met.fetch_add(1, Ordering::SeqCst);
-                return;
-            }
-        }
-        self.alone.fetch_add(1, Ordering::SeqCst);
-    }
 }
 
 #[test]
 fn two_workers_meet_at_rows(rt: HostRuntime) -> Result<(), Fail> {
-    let alloc = rt.alloc();
-    let plan = Plan::new(2, 1).ok_or("in range")?;
-    let before = Workers {
-        runtime: &rt,
-        alloc,
-        plan,
-        gate: &OpenGate,
-    };
-    let gate = Meeting {
-        claims: [AtomicU64::new(0), AtomicU64::new(0)],
-        met: AtomicU64::new(0),
-        alone: AtomicU64::new(0),
-    };
-    let crew = Workers {
-        runtime: &rt,
-        alloc,
-        plan,
-        gate: &gate,
-    };
+    let before = at(&rt, rt.alloc(), (2, 1), &OpenGate)?;
+    let gate = nobody_yet();
+    let crew = at(&rt, rt.alloc(), (2, 1), &gate)?;
     match shape(&before, &crew, LEFT.0)? {
         Ok(found) => assert!(rt; found.parents() == LEFT.2),
         Err(_) => assert!(rt; false),
     }
-    // somebody drew chunk 0, and nobody gave up
-    assert!(rt; gate.met.load(Ordering::SeqCst) > 0);
-    assert_eq!(rt; gate.alone.load(Ordering::SeqCst), 0);
+    assert!(rt; have_met(&gate));
     Ok(())
-}
-
-// Counts the chunks that are drawn.
-#[derive(Drop)]
-struct Draws {
-    count: AtomicU64,
-}
-
-impl Gate for Draws {
-    fn after_claim(&self, _worker: u32, chunk: Option<u64>) {
-        if chunk.is_some() {
-            self.count.fetch_add(1, Ordering::SeqCst);
-        }
-    }
 }
 
 // How many chunks so many workers draw in all while they make the rows of a source.
@@ -430,24 +336,11 @@ fn count_draws<R: Threads + Sync>(
     workers: u32,
     source: &[u8],
 ) -> Result<u64, Fail> {
-    let plan = Plan::new(workers, 1).ok_or("in range")?;
-    let before = Workers {
-        runtime: rt,
-        alloc,
-        plan,
-        gate: &OpenGate,
-    };
-    let gate = Draws {
-        count: AtomicU64::new(0),
-    };
-    let crew = Workers {
-        runtime: rt,
-        alloc,
-        plan,
-        gate: &gate,
-    };
+    let before = at(rt, alloc, (workers, 1), &OpenGate)?;
+    let gate = no_draws();
+    let crew = at(rt, alloc, (workers, 1), &gate)?;
     match shape(&before, &crew, source)? {
-        Ok(_) => Ok(gate.count.load(Ordering::SeqCst)),
+        Ok(_) => Ok(drawn(&gate)),
         Err(_) => Err("a fault of shape".into()),
     }
 }

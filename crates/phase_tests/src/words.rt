@@ -5,17 +5,16 @@ ghost use Rattle.ast_rows.specs.NodeRows.{rows_from};
 ghost use Rattle.rv_emit.specs.Compilable.{IsCompilable};
 ghost use Rattle.phase_tests.specs.Worked.{seven as seven_program, counting as counting_program};
 
+use crate::gates::{PLANS, at, have_met, nobody_yet};
 use ast_rows::{Names, Rows};
-use chunk_seats::{Gate, OpenGate, Plan};
-use par_passes::{Passes, Workers};
+use chunk_seats::OpenGate;
+use par_passes::Passes;
 use rv_emit::{code, code_columns, emit, places, sizes};
 use rv_regs::{Frame, Frames};
 use source_meaning::{BinaryOp, Kind, ValueType};
 use std::alloc::Global;
 use std::process::Abort;
-use std::sync::atomic::{AtomicU64, Ordering};
 use std::test::*;
-use std::thread::Threads;
 
 const NONE: u32 = u32::MAX;
 
@@ -273,113 +272,21 @@ fn expect_words<R: Abort>(
 fn code_of_every_plan(rt: HostRuntime) -> Result<(), Fail> {
     let seven = seven(rt.alloc())?;
     let counting = counting(rt.alloc())?;
-    for workers in [1, 4, 64] {
-        for chunk in [1, 7, 65536] {
-            let crew = Workers {
-                runtime: &rt,
-                alloc: rt.alloc(),
-                plan: Plan::new(workers, chunk).ok_or("in range")?,
-                gate: &OpenGate,
-            };
-            expect(&rt, &crew, &seven, SEVEN)?;
-            expect(&rt, &crew, &counting, COUNTING)?;
-            expect_words(&rt, &crew, &counting, COUNTING)?;
-        }
+    for plan in PLANS {
+        let crew = at(&rt, rt.alloc(), plan, &OpenGate)?;
+        expect(&rt, &crew, &seven, SEVEN)?;
+        expect(&rt, &crew, &counting, COUNTING)?;
+        expect_words(&rt, &crew, &counting, COUNTING)?;
     }
-    Ok(())
-}
-
-// The first worker that draws chunk 0 waits until the other has drawn too, for so many turns at most.
-#[derive(Drop)]
-struct Meeting {
-    claims: [AtomicU64; 2],
-    drawn: AtomicU64,
-    alone: AtomicU64,
-}
-
-const TURNS: u64 = 1 << 26;
-
-impl Gate for Meeting {
-    fn after_claim(&self, worker: u32, chunk: Option<u64>) {
-        let (mine, other) = if worker == 0 { (0, 1) } else { (1, 0) };
-        self.claims[mine].fetch_add(1, Ordering::SeqCst);
-        if chunk != Some(0) || self.drawn.fetch_add(1, Ordering::SeqCst) > 0 {
-            return;
-        }
-        for _ in 0..TURNS {
-            if self.claims[other].load(Ordering::SeqCst) > 0 {
-                return;
-            }
-        }
-        self.alone.fetch_add(1, Ordering::SeqCst);
-    }
-}
-
-fn new_meeting() -> Meeting {
-    Meeting {
-        claims: [AtomicU64::new(0), AtomicU64::new(0)],
-        drawn: AtomicU64::new(0),
-        alone: AtomicU64::new(0),
-    }
-}
-
-// Whether somebody drew chunk 0, and nobody gave up.
-fn have_met(gate: &Meeting) -> bool {
-    gate.drawn.load(Ordering::SeqCst) > 0 && gate.alone.load(Ordering::SeqCst) == 0
-}
-
-// Two workers behind this gate.
-fn two<'a, R>(
-    rt: &'a R,
-    alloc: Global,
-    gate: &'a Meeting,
-) -> Result<Workers<'a, R, Meeting>, Fail> {
-    Ok(Workers {
-        runtime: rt,
-        alloc,
-        plan: Plan::new(2, 1).ok_or("in range")?,
-        gate,
-    })
-}
-
-// Sees that two workers meet in each pass, and that it gives this.
-fn expect_meetings<R: Threads + Abort + Sync>(
-    rt: &R,
-    alloc: Global,
-    found: &Found,
-    expected: Code<'_>,
-) -> Result<(), Fail>
-    requires nodes { length found.now.rows ≤ 2 ^ 25 }
-    requires program { (p : Source) × IsCompilable p found.now.rows found.now.names found.now.depths.items found.now.frames }
-{
-    let gate = new_meeting();
-    let columns = code_columns(
-        &two(rt, alloc, &gate)?,
-        &found.rows,
-        &found.names,
-        &found.depths,
-        &found.frames,
-    )?;
-    assert!(rt; have_met(&gate));
-    let gate = new_meeting();
-    let sizes = sizes(&two(rt, alloc, &gate)?, &columns)?;
-    assert!(rt; have_met(&gate));
-    assert!(rt; sizes.as_slice() == expected.sizes);
-    let gate = new_meeting();
-    let places = places(&two(rt, alloc, &gate)?, &columns, &sizes)?;
-    assert!(rt; have_met(&gate));
-    assert!(rt; places.as_slice() == expected.places);
-    let gate = new_meeting();
-    match emit(&two(rt, alloc, &gate)?, &columns, &places) {
-        Ok(words) => assert!(rt; words.as_slice() == expected.words),
-        Err(_) => assert!(rt; false),
-    }
-    assert!(rt; have_met(&gate));
     Ok(())
 }
 
 #[test]
-fn two_workers_meet_in_each_pass(rt: HostRuntime) -> Result<(), Fail> {
+fn two_workers_meet(rt: HostRuntime) -> Result<(), Fail> {
     let seven = seven(rt.alloc())?;
-    expect_meetings(&rt, rt.alloc(), &seven, SEVEN)
+    let gate = nobody_yet();
+    let crew = at(&rt, rt.alloc(), (2, 1), &gate)?;
+    expect(&rt, &crew, &seven, SEVEN)?;
+    assert!(rt; have_met(&gate));
+    Ok(())
 }
