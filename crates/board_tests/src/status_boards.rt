@@ -28,7 +28,7 @@ fn before_one<N: Chunks<u64>, L: Ledger>(
     let fold = |unseen: Unseen<'_>| -> u64
         ensures { result ≡ 4 }
     {
-        // The contract alone speaks of it.
+        // The only chunk before has this sum.
         let _ = unseen;
         4
     };
