@@ -68,9 +68,6 @@ got words m name rows x name_is rows_is =
       is_asked = x.is_asked ∙ ap₂ (λ n rs. Some (asked_by n rs)) same_name same_rows;
     }
 
-pub some_same : {X : Type 0} (o : Option X) (x y : X) → o ≡ Some x → o ≡ Some y → x ≡ y
-some_same o x y e f = ap (λ p. unwrap_or p x) (sym e ∙ f)
-
 pub taken_asked : (words : List Text) → fault_of app words ≡ [] → (a : Asked) × (asked words ≡ Some a)
 taken_asked words none =
     let one = taken words none in

@@ -62,7 +62,7 @@ fn length_of_row(
 }
 
 /// How many productions all pieces take. The count stops at the greatest u64.
-pub(crate) fn length_of_rows(
+fn length_of_rows(
     alloc: Global,
     grammar: &Grammar,
     nullable: &[bool],
@@ -78,20 +78,6 @@ pub(crate) fn length_of_rows(
         sum = sum.saturating_add(length);
     }
     Ok(sum)
-}
-
-/// How many productions the pieces of a grammar take: the room that its tables are made with. The count stops at the greatest u64.
-pub fn room_for_pieces(alloc: Global, grammar: &Grammar) -> Result<u64, AllocError> {
-    let nullable = nullable(alloc, grammar)?;
-    let lengths = empty_lengths(alloc, grammar)?;
-    let lookbacks = lookbacks(alloc, grammar, nullable.as_slice())?;
-    length_of_rows(
-        alloc,
-        grammar,
-        nullable.as_slice(),
-        lengths.as_slice(),
-        lookbacks.as_slice(),
-    )
 }
 
 /// No rows, with room for this many pieces and for so many productions.

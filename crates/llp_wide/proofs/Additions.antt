@@ -40,9 +40,6 @@ adds_then {A} P Q R old next new left right parts h k =
       meets = λ x m. ⊎_elim (λ (n : P x). k.keeps x (h.meets x n)) (λ (n : Q x). k.meets x n) (parts x m);
     }
 
-pub adds_start : {A : Type 0} (P : ℕ → A → Type 0) (xs : List A) → Adds (SomeBelow 0 P) xs xs
-adds_start {A} P xs = adds_none (SomeBelow 0 P) xs (λ x h. let l : h.0 < 0 = h.1 in omega arith)
-
 pub adds_next : {A : Type 0} (P : ℕ → A → Type 0) (k : ℕ) (old next new : List A) → Adds (SomeBelow k P) old next → Adds (P k) next new → Adds (SomeBelow (k + 1) P) old new
 adds_next {A} P k old next new h m =
     adds_then (SomeBelow k P) (P k) (SomeBelow (k + 1) P) old next new (λ x t. (t.0, (let l : t.0 < k = t.1 in omega arith), t.2)) (λ x t. (k, omega arith, t)) parts h m

@@ -158,9 +158,6 @@ next_row w z b = omega arith
 pub next_layer : (w b : ℕ) → (b * w + w) * w + 0 ≡ ((b + 1) * w + 0) * w + 0
 next_layer w b = omega arith
 
-pub all_layers : (w : ℕ) → (w * w + 0) * w + 0 ≡ w * w * w
-all_layers w = omega arith
-
 module _ (g : Grammar) where
   -- a layer begins
   pub up_to_start : (b start n : ℕ) (numbers : List (Option ℕ)) (pieces : List Entry) → AreTriples g numbers pieces → length numbers ≡ n → start ≡ length pieces → AreTriplesUpTo g b start n numbers pieces

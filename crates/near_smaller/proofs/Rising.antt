@@ -52,21 +52,6 @@ module _ (levels : List (List ℤ)) (level upper : List ℤ) where
           let up : level_at behind (h + 1) ≡ upper = get_or_push before upper [] (h + 1) next in
           subst (λ (l : List ℤ). HalvedTo l (level_at behind (h + 1))) (sym lower) (subst (HalvedTo level) (sym up) halved)
 
--- the list alone is the first level
-pub rising_first : (values : List ℤ) → AreRising (values ∷ [])
-rising_first values = record { few = omega arith; halved = λ h lt. absurd (let n : length (values ∷ []) ≡ 1 = refl in omega arith) }
-
 -- levels in memory, with one pushed
 pub lists_more : (levels pushed : List (Vec ℤ)) (level : Vec ℤ) → pushed ≡ levels ++ level ∷ [] → lists_of pushed ≡ lists_of levels ++ level.items ∷ []
 lists_more levels pushed level is = ap lists_of is ∙ map-append (λ (v : Vec ℤ). v.items) levels (level ∷ [])
-
--- one value at most in the last one
-pub levels_end : (levels : List (List ℤ)) (level : List ℤ) → AreRising (levels ++ level ∷ []) → length level ≤ 1 → AreLevels (levels ++ level ∷ [])
-levels_end levels level rising single =
-    let n : length (levels ++ level ∷ []) ≡ length levels + 1 = length-append levels (level ∷ []) in
-    let last : length levels ≡ length (levels ++ level ∷ []) - 1 = omega arith in
-    record {
-      some = omega arith;
-      rising = rising;
-      top = subst (λ (l : List ℤ). length l ≤ 1) (sym (get_or_push levels level [] (length (levels ++ level ∷ []) - 1) last)) single;
-    }

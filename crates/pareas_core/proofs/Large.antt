@@ -21,10 +21,6 @@ large f = nat_lt 2032 (frame f).bytes
 abbrev told : Function → ℕ × ℕ
 told f = (f.at, (frame f).bytes)
 
-pub none_found : (o : Option Function) → option_map told o ≡ None → o ≡ None
-none_found None e = refl
-none_found (Some f) e = absurd (cc)
-
 pub one_found : (o : Option Function) (at bytes : ℕ) → option_map told o ≡ Some (at, bytes) → (f : Function) × (o ≡ Some f) × (f.at ≡ at) × ((frame f).bytes ≡ bytes)
 one_found None at bytes e = absurd (cc)
 one_found (Some f) at bytes e = (f, refl, ap (λ o. (from_some o).0) e, ap (λ o. (from_some o).1) e)

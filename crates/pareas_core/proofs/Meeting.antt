@@ -334,13 +334,6 @@ drop_read zero xs = refl
 drop_read (suc n) [] = refl
 drop_read (suc n) (x ∷ xs) = drop_read n xs
 
--- what a command reads, by whether it reads
-pub has_read : (c : Command) (before after : Option (List ℕ)) (bytes : List ℕ) → reads c ≡ true → ReadsUpTo (most_bytes c + 1) before after bytes → HasRead c before after bytes
-has_read c before after bytes does up = λ all is. let got = up all is in rw does (got.0, got.1 ∙ ap Some (sym (drop_read (most_bytes c + 1) all)))
-
-pub has_read_none : (c : Command) (known : Option (List ℕ)) → reads c ≡ false → HasRead c known known []
-has_read_none c known none = λ all is. rw none (refl, is)
-
 no_words : {A : Type 0} (words : Option Command) (c : Command) → words ≡ Some c → words ≡ None → A
 no_words words c e n = let both : Some c ≡ None = sym e ∙ n in cc
 

@@ -13,9 +13,6 @@ use Rattle.scatter_rows.specs.Worked.{IsCut, Covers}
 pub cut_of : (count size : ℕ) → 0 < size → IsCut count size (chunk_count size count)
 cut_of count size some_size = record { inside = λ c h. chunk_inside count size c some_size h; all = chunks_all count size some_size }
 
-pub covers_none : (count size : ℕ) → Covers count size [] []
-covers_none count size c i p = absurd (omega arith)
-
 pub covers_more : (count size : ℕ) (claimed put put' : List ℕ) (c : ℕ) → Covers count size claimed put → ((i : ℕ) → 0 < times i put → 0 < times i put')
     → ((i : ℕ) → c * size ≤ i → i < c * size + size → i < count → 0 < times i put') → Covers count size (claimed ++ c ∷ []) put'
 covers_more count size claimed put put' c old kept new d i p from to near = dite (ℕ_discrete c d)

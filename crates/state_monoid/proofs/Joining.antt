@@ -44,13 +44,6 @@ column_of letters fs rows columns g so all cs h =
           ap (slice_get fs) at ∙ (so a row (value_get rows a [] inside)).each_letter g h;
     }
 
-pub column_codes : (fs : List (List ℕ)) (letter column : List ℕ) → IsColumn fs letter column → All (λ code. code < length fs) column
-column_codes fs letter column so k e h =
-    let len = so.one_for_each in
-    let inside : k < length fs = omega arith in
-    let at : slice_index column k < length fs = get_below fs (slice_index column k) (compose (slice_index_or fs k []) letter) (so.each_function k inside) in
-    subst (λ (n : ℕ). n < length fs) (sym (get_value column k (get_or column k 0) e (value_get column k 0 h))) at
-
 -- the functions joined with the identity
 pub joined_first : (d : Automaton) → IsAutomaton d → (letters fs : List (List ℕ)) (os : List Origin) → AreExplored d letters fs os → AreJoined fs 1 (range_with_len 0 (length fs))
 joined_first d valid letters fs os so = record {

@@ -23,9 +23,6 @@ use Rattle.tree_passes.proofs.Stretched.{count_before, last_before, rows_before,
 abbrev pub AreColumnsBefore : (text numbers ends : List ℕ) → ℕ → List Kind → (lows tokens : List ℕ) → Type 0
 AreColumnsBefore text numbers ends c kinds lows tokens = (r : Tree Prog) → IsParseOf text numbers r → AreStretch (left_parse r) (leaves r) 0 no_row (rows_before numbers ends c) kinds lows tokens
 
-pub no_columns : (text numbers ends : List ℕ) → AreColumnsBefore text numbers ends 0 [] [] []
-no_columns text numbers ends r is = record { kinds_are = refl; lows_are = refl; tokens_are = refl }
-
 pub columns_next : (text numbers ends : List ℕ) (cut : IsCut numbers ends) (c : ℕ) → c < length ends → (kinds more_kinds all_kinds : List Kind) (lows more_lows all_lows tokens more_tokens all_tokens : List ℕ) →
     AreColumnsBefore text numbers ends c kinds lows tokens → AreColumnsOf text numbers ends c more_kinds more_lows more_tokens →
     all_kinds ≡ kinds ++ more_kinds → all_lows ≡ lows ++ more_lows → all_tokens ≡ tokens ++ more_tokens → AreColumnsBefore text numbers ends (suc c) all_kinds all_lows all_tokens

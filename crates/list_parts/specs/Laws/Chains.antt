@@ -93,9 +93,6 @@ total_most xs k =
     let whole = ap (λ l. length (flat_map part_items l)) (take-append-drop k xs) in let cut = ap length (flat_map-append part_items (take k xs) (drop k xs)) in
     let long = length-append (flat_map part_items (take k xs)) (flat_map part_items (drop k xs)) in omega (arith, whole, cut, long)
 
-pub total_all : {X : Type 0} (xs : List (Part X)) → total (length xs) xs ≡ length (flat_map part_items xs)
-total_all xs = ap (λ l. length (flat_map part_items l)) (take_all (length xs) xs (omega arith))
-
 pub get_below : {A : Type 0} (xs : List A) (k : ℕ) → k < length xs → (x : A) × (slice_get xs k ≡ Some x)
 get_below [] k h = absurd (omega arith)
 get_below (x ∷ xs) zero h = (x, refl)
