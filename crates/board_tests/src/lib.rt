@@ -8,8 +8,6 @@ mod claims;
 #[cfg(test)]
 mod deals;
 #[cfg(test)]
-mod gates;
-#[cfg(test)]
 mod monoids;
 #[cfg(test)]
 mod parts;

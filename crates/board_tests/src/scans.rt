@@ -1,12 +1,12 @@
 //! Scans, each of which says whether its sums are right.
 ghost use Rattle.std.specs.Prelude.{◌<◌, ◌%◌, ◌^◌, length};
 
-use crate::gates::at;
 use chunk_seats::{Crew, OpenGate};
 use scan_lookback::{Count, Lift, scan, scan_lifted};
 use std::alloc::AllocError;
 use std::marker::Brand;
 use std::test::*;
+use test_gates::at;
 
 struct Low;
 

@@ -1,5 +1,4 @@
 //! Scans and scatters, for every kind of plan, and who works on them.
-use crate::gates::{PLANS, at, meetings, nobody_told, nobody_yet, told};
 use crate::scans::{five_items, no_item};
 use crate::scatters::{five_values, no_value};
 use chunk_seats::{Crew, OpenGate};
@@ -7,6 +6,7 @@ use std::alloc::{AllocError, Global};
 use std::process::Abort;
 use std::test::*;
 use std::thread::Threads;
+use test_gates::{Meeting, PLANS, Roll, at};
 
 // Whether an example is right: the first two have five items, and the others none.
 fn is_right(crew: &impl Crew, example: u32) -> Result<bool, AllocError> {
@@ -20,7 +20,7 @@ fn is_right(crew: &impl Crew, example: u32) -> Result<bool, AllocError> {
 
 #[test]
 fn the_same_for_every_plan(rt: HostRuntime) -> Result<(), Fail> {
-    for plan in PLANS {
+    for &plan in PLANS {
         let crew = at(&rt, rt.alloc(), plan, &OpenGate)?;
         for example in 0..4 {
             assert!(rt; is_right(&crew, example)?, "example {example}");
@@ -36,14 +36,14 @@ fn rolls<R: Threads + Abort + Sync>(
     plan: (u32, u32),
     example: u32,
 ) -> Result<(u64, u64), Fail> {
-    let roll = nobody_told();
+    let roll = Roll::new();
     let crew = at(rt, alloc, plan, &roll)?;
     assert!(rt; is_right(&crew, example)?);
-    Ok(told(&roll))
+    Ok(roll.told())
 }
 
 // Plans, and how a gate is told of five items: no more workers than chunks.
-const ROLLS: [((u32, u32), (u64, u64)); 4] = [
+const ROLLS: &[((u32, u32), (u64, u64))] = &[
     ((4, 1), (0x0101_0101, 0b11111)),
     ((64, 2), (0x0001_0101, 0b111)),
     ((64, 5), (1, 0b1)),
@@ -52,7 +52,7 @@ const ROLLS: [((u32, u32), (u64, u64)); 4] = [
 
 #[test]
 fn each_worker_tells_its_number(rt: HostRuntime) -> Result<(), Fail> {
-    for (plan, roll) in ROLLS {
+    for &(plan, roll) in ROLLS {
         for example in 0..2 {
             assert_eq!(rt;
                 rolls(&rt, rt.alloc(), plan, example)?,
@@ -68,10 +68,10 @@ fn each_worker_tells_its_number(rt: HostRuntime) -> Result<(), Fail> {
 
 // How often two workers meet in an example, and how often one gives up.
 fn met<R: Threads + Abort + Sync>(rt: &R, alloc: Global, example: u32) -> Result<(u64, u64), Fail> {
-    let gate = nobody_yet();
+    let gate = Meeting::new();
     let crew = at(rt, alloc, (2, 1), &gate)?;
     assert!(rt; is_right(&crew, example)?);
-    Ok(meetings(&gate))
+    Ok(gate.told())
 }
 
 #[test]

@@ -1,7 +1,6 @@
 //! The tokens of a text, by composed functions of an automaton (Hillis and Steele, "Data Parallel Algorithms").
 #![tactic(auto)]
 
-mod automaton;
 mod bytes;
 mod chunks;
 mod cut;
@@ -15,12 +14,11 @@ mod marks;
 mod meanings;
 mod pieces;
 mod starts;
+mod states;
 mod stretch;
 mod vectors;
 
 pub use fault::LexFault;
 pub use laws::{first_piece_is_longest, fronts_are_lexemes};
 pub use lexer::lex;
-
-#[cfg(test)]
-mod tests;
+pub use states::automaton;

@@ -4,8 +4,8 @@ ghost use Rattle.std.specs.List.{range_with_len};
 ghost use Rattle.par_lexer.specs.Chunks.{number_of_bytes, chunk_number, AreStarts};
 ghost use Rattle.par_lexer.specs.Table.{lexer};
 
-use crate::automaton::NOTHING;
 use crate::chunks::{chunk, count_chunks};
+use crate::states::NOTHING;
 use par_passes::Passes;
 use state_monoid::Compositions;
 use std::alloc::{AllocError, Global};

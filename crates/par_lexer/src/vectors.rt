@@ -5,7 +5,7 @@ ghost use Rattle.state_monoid.specs.Image.{image};
 ghost use Rattle.par_lexer.specs.Chunks.{AreStarts};
 ghost use Rattle.par_lexer.specs.Table.{lexer};
 
-use crate::automaton::NOTHING;
+use crate::states::NOTHING;
 use chunk_seats::Plan;
 use par_passes::Passes;
 use state_monoid::{Dfa, States};

@@ -1,15 +1,13 @@
 //! The program `pareas`: the real input and outputs round the compiler.
 #![tactic(auto)]
 
-mod adapters;
-
-use adapters::{Reader, Writer};
 use chunk_seats::OpenGate;
 use pareas_core::{Status, pareas};
 use std::alloc::Global;
 use std::env::{self, Env};
 use std::io;
 use std::process::ExitCode;
+use stream_ends::{Reader, Writer};
 
 /// The words of the command line, the program's name first. A word that isn't UTF-8 is in no command, so then there are none.
 fn words<R: Env + AllocGlobal>(rt: &R) -> io::Result<Vec<String>> {

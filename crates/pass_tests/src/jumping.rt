@@ -2,7 +2,6 @@
 ghost use Rattle.std.specs.Prelude.{◌≡◌, ◌<◌, true};
 ghost use Rattle.pointer_jumping.specs.Climbs.{AreUpward};
 
-use crate::gates::{PLANS, at, meetings, nobody_told, nobody_yet, told};
 use chunk_seats::OpenGate;
 use par_passes::Passes;
 use pointer_jumping::nearest;
@@ -13,6 +12,7 @@ use std::process::Abort;
 use std::sync::ledger::{Blank, Ledger};
 use std::test::*;
 use std::thread::Threads;
+use test_gates::{Meeting, PLANS, Roll, at};
 
 // Whether each parent's number is greater than its child's, and one of a node.
 fn are_upward(parents: &[Option<u32>]) -> bool
@@ -96,7 +96,7 @@ const FORESTS: [Forest; 4] = [
 
 #[test]
 fn the_same_for_every_plan(rt: HostRuntime) -> Result<(), Fail> {
-    for plan in PLANS {
+    for &plan in PLANS {
         let crew = at(&rt, rt.alloc(), plan, &OpenGate)?;
         for (parents, marks, expected) in FORESTS {
             expect(&rt, &crew, parents, marks, expected)?;
@@ -112,10 +112,10 @@ fn rounds<R: Threads + Abort + Sync>(
     parents: &[Option<u32>],
     marks: &[bool],
 ) -> Result<u64, Fail> {
-    let roll = nobody_told();
+    let roll = Roll::new();
     let crew = at(rt, alloc, (1, 65536), &roll)?;
     let _all = found::<Brand>(&crew, parents, marks, Blank::new(1))?;
-    let (passes, _) = told(&roll);
+    let (passes, _) = roll.told();
     assert!(rt; passes >= 3 && passes % 2 == 1);
     Ok((passes - 3) / 2)
 }
@@ -143,11 +143,9 @@ fn rounds_are_few(rt: HostRuntime) -> Result<(), Fail> {
 
 #[test]
 fn two_workers_meet(rt: HostRuntime) -> Result<(), Fail> {
-    let gate = nobody_yet();
+    let gate = Meeting::new();
     let crew = at(&rt, rt.alloc(), (2, 1), &gate)?;
     expect(&rt, &crew, &CHAIN, &LAST, FORESTS[0].2)?;
-    // somebody drew chunk 0, and nobody gave up
-    let (met, alone) = meetings(&gate);
-    assert!(rt; met > 0 && alone == 0);
+    assert!(rt; gate.is_held());
     Ok(())
 }

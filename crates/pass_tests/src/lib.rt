@@ -6,8 +6,6 @@ mod callers;
 #[cfg(test)]
 mod examples;
 #[cfg(test)]
-mod gates;
-#[cfg(test)]
 mod jumping;
 #[cfg(test)]
 mod minima;

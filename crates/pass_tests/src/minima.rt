@@ -1,10 +1,10 @@
 //! Nearest values, for every kind of plan.
-use crate::gates::{PLANS, at, meetings, nobody_yet};
 use chunk_seats::OpenGate;
 use near_smaller::Minima;
 use par_passes::Passes;
 use std::process::Abort;
 use std::test::*;
+use test_gates::{Meeting, PLANS, at};
 
 // A place, a value, and the nearest places before and behind with no greater value.
 type Question = (usize, i64, Option<usize>, Option<usize>);
@@ -41,7 +41,7 @@ fn ask(
 
 #[test]
 fn the_same_for_every_plan(rt: HostRuntime) -> Result<(), Fail> {
-    for plan in PLANS {
+    for &plan in PLANS {
         let crew = at(&rt, rt.alloc(), plan, &OpenGate)?;
         ask(&rt, &crew, &VALUES, &QUESTIONS)?;
         ask(&rt, &crew, &[], &[(0, 5, None, None)])?;
@@ -51,11 +51,9 @@ fn the_same_for_every_plan(rt: HostRuntime) -> Result<(), Fail> {
 
 #[test]
 fn two_workers_meet(rt: HostRuntime) -> Result<(), Fail> {
-    let gate = nobody_yet();
+    let gate = Meeting::new();
     let crew = at(&rt, rt.alloc(), (2, 1), &gate)?;
     ask(&rt, &crew, &VALUES, &QUESTIONS)?;
-    // somebody drew chunk 0, and nobody gave up
-    let (met, alone) = meetings(&gate);
-    assert!(rt; met > 0 && alone == 0);
+    assert!(rt; gate.is_held());
     Ok(())
 }

@@ -2,12 +2,12 @@
 ghost use Rattle.std.specs.Prelude.{◌≤◌};
 
 use crate::examples::{ALL, ONE_PASS, OVER_ITEMS, is_right};
-use crate::gates::{PLANS, at, meetings, nobody_told, nobody_yet, told};
 use chunk_seats::OpenGate;
 use std::alloc::Global;
 use std::process::Abort;
 use std::test::*;
 use std::thread::Threads;
+use test_gates::{Meeting, PLANS, Roll, at};
 
 fn examples<R: Threads + Abort + Sync>(
     rt: &R,
@@ -29,7 +29,7 @@ fn examples<R: Threads + Abort + Sync>(
 
 #[test]
 fn the_same_for_every_plan(rt: HostRuntime) -> Result<(), Fail> {
-    for plan in PLANS {
+    for &plan in PLANS {
         for n in 0..4 {
             examples(&rt, rt.alloc(), plan, n)?;
         }
@@ -47,14 +47,14 @@ fn rolls<R: Threads + Abort + Sync>(
 ) -> Result<(u64, u64), Fail>
     requires { n ≤ 3 }
 {
-    let roll = nobody_told();
+    let roll = Roll::new();
     let crew = at(rt, alloc, plan, &roll)?;
     assert!(rt; is_right(&crew, example, n)?);
-    Ok(told(&roll))
+    Ok(roll.told())
 }
 
 // Plans and numbers of items, and how a gate is told: no more workers than chunks, and one where there is none.
-const ROLLS: [((u32, u32), usize, (u64, u64)); 7] = [
+const ROLLS: &[((u32, u32), usize, (u64, u64))] = &[
     ((2, 1), 3, (0x0101, 0b111)),
     ((64, 2), 3, (0x0101, 0b11)),
     ((64, 2), 2, (1, 0b1)),
@@ -66,7 +66,7 @@ const ROLLS: [((u32, u32), usize, (u64, u64)); 7] = [
 
 #[test]
 fn each_worker_tells_its_number(rt: HostRuntime) -> Result<(), Fail> {
-    for (plan, n, roll) in ROLLS {
+    for &(plan, n, roll) in ROLLS {
         for example in 0..OVER_ITEMS {
             let found = rolls(&rt, rt.alloc(), plan, example, n.min(3))?;
             assert_eq!(rt; found, roll, "example {example} of {n} items");
@@ -77,10 +77,10 @@ fn each_worker_tells_its_number(rt: HostRuntime) -> Result<(), Fail> {
 
 // How often two workers meet in an example, and how often one gives up.
 fn met<R: Threads + Abort + Sync>(rt: &R, alloc: Global, example: u32) -> Result<(u64, u64), Fail> {
-    let gate = nobody_yet();
+    let gate = Meeting::new();
     let crew = at(rt, alloc, (2, 1), &gate)?;
     assert!(rt; is_right(&crew, example, 3)?);
-    Ok(meetings(&gate))
+    Ok(gate.told())
 }
 
 #[test]

@@ -1,6 +1,5 @@
 //! What sources mean: their names, types, depths and frames, for every plan, and each of these passes by itself.
 use crate::fronts::many_names;
-use crate::gates::{PLANS, at, have_met, nobody_yet};
 use chunk_seats::OpenGate;
 use front_end::{Analysis, front};
 use name_pass::resolve;
@@ -11,6 +10,7 @@ use std::alloc::Global;
 use std::process::Abort;
 use std::test::*;
 use std::thread::Threads;
+use test_gates::{Meeting, PLANS, at};
 use type_pass::check;
 
 const NONE: u32 = u32::MAX;
@@ -139,7 +139,7 @@ fn is_right(crew: &impl Passes, example: u32) -> Result<bool, Fail> {
 
 #[test]
 fn the_same_for_every_plan(rt: HostRuntime) -> Result<(), Fail> {
-    for plan in PLANS {
+    for &plan in PLANS {
         let crew = at(&rt, rt.alloc(), plan, &OpenGate)?;
         for example in 0..6 {
             assert!(rt; is_right(&crew, example)?, "example {example}");
@@ -200,10 +200,10 @@ fn two_workers_meet_in_each_pass(rt: HostRuntime) -> Result<(), Fail> {
     let before = at(&rt, rt.alloc(), (2, 1), &OpenGate)?;
     let found = analysed(&before, BINDINGS)?;
     for pass in 0..4 {
-        let gate = nobody_yet();
+        let gate = Meeting::new();
         let crew = at(&rt, rt.alloc(), (2, 1), &gate)?;
         assert!(rt;
-            pass_is_right(&crew, &found, pass)? && have_met(&gate),
+            pass_is_right(&crew, &found, pass)? && gate.is_held(),
             "pass {pass}"
         );
     }

@@ -1,5 +1,4 @@
 //! Sources and their first diagnostics, and the rows of one, for every plan.
-use crate::gates::{PLANS, at};
 use chunk_seats::OpenGate;
 use front_end::{Refusal, front};
 use limits::MOST_SOURCE;
@@ -8,6 +7,7 @@ use std::alloc::Global;
 use std::process::Abort;
 use std::test::*;
 use std::thread::Threads;
+use test_gates::{PLANS, at};
 
 // A source, and the code and the place of its first diagnostic.
 type Diagnosed = (&'static [u8], u16, u32);
@@ -152,7 +152,7 @@ fn one_source_of_each_phase_for_every_plan(rt: HostRuntime) -> Result<(), Fail> 
         OF_SCOPE[3],
         OF_TYPING[1],
     ];
-    for plan in PLANS {
+    for &plan in PLANS {
         expect(&rt, rt.alloc(), plan, &sources)?;
     }
     Ok(())

@@ -1,15 +1,16 @@
 //! Texts and their tokens, for every kind of plan.
 ghost use Rattle.std.specs.Prelude.{◌≡◌, ◌≤◌, ◌^◌, length, IfOk};
 
-use crate::gates::{PLANS, at, meetings, nobody_yet};
 use chunk_seats::OpenGate;
-use par_lexer::{LexFault, lex};
+use par_lexer::{LexFault, automaton, lex};
 use par_passes::Passes;
 use source_meaning::Terminal;
+use state_monoid::Compositions;
 use std::alloc::{AllocError, Global};
 use std::process::Abort;
 use std::test::*;
 use std::thread::Threads;
+use test_gates::{Meeting, PLANS, at};
 
 // A token's terminal, place and length.
 type Lexeme = (Terminal, u32, u32);
@@ -126,7 +127,7 @@ fn texts<R: Threads + Abort + Sync>(rt: &R, alloc: Global, plan: (u32, u32)) -> 
 
 #[test]
 fn tokens_of_every_plan(rt: HostRuntime) -> Result<(), Fail> {
-    for plan in PLANS {
+    for &plan in PLANS {
         texts(&rt, rt.alloc(), plan)?;
     }
     Ok(())
@@ -180,11 +181,22 @@ fn bytes_of_no_lexeme(rt: HostRuntime) -> Result<(), Fail> {
 
 #[test]
 fn two_workers_meet_in_every_pass(rt: HostRuntime) -> Result<(), Fail> {
-    let gate = nobody_yet();
+    let gate = Meeting::new();
     let crew = at(&rt, rt.alloc(), (2, 1), &gate)?;
     let expected = [(Terminal::Ident, 0, 1), (Terminal::Ident, 2, 1)];
     assert!(rt; has_tokens(&crew, b"a b", &expected));
     // the chunks' functions, their pieces, the faulty ones, and the tokens' three columns
-    assert_eq!(rt; meetings(&gate), (6, 0));
+    assert_eq!(rt; gate.told(), (6, 0));
+    Ok(())
+}
+
+// The automaton has few enough functions to be numbered, so that their numbers are the way taken.
+#[test]
+fn few_functions(rt: HostRuntime) -> Result<(), Fail> {
+    let dfa = automaton(rt.alloc())?;
+    let Ok(compositions) = Compositions::build(rt.alloc(), &dfa) else {
+        return Err("too many".into());
+    };
+    assert_eq!(rt; compositions.count(), 65);
     Ok(())
 }

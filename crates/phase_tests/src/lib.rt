@@ -8,10 +8,12 @@ mod columns;
 #[cfg(test)]
 mod fronts;
 #[cfg(test)]
-mod gates;
-#[cfg(test)]
 mod lexemes;
 #[cfg(test)]
+mod pieces;
+#[cfg(test)]
 mod shapes;
+#[cfg(test)]
+mod stretches;
 #[cfg(test)]
 mod words;

@@ -1,5 +1,4 @@
 //! The rows of sources, their faults of shape, and sources that are deep or long.
-use crate::gates::{PLANS, at, drawn, have_met, no_draws, nobody_yet};
 use ast_rows::Rows;
 use chunk_seats::OpenGate;
 use front_end::{language_tables, lexed, parsed};
@@ -10,6 +9,7 @@ use std::alloc::Global;
 use std::process::Abort;
 use std::test::*;
 use std::thread::Threads;
+use test_gates::{Draws, Meeting, PLANS, at};
 use tree_passes::{ShapeFault, rows};
 
 // The rows of a source, which the second crew finds, or its fault of shape.
@@ -220,7 +220,7 @@ fn each_shape_has_its_rows(rt: HostRuntime) -> Result<(), Fail> {
 
 #[test]
 fn one_shape_for_every_plan(rt: HostRuntime) -> Result<(), Fail> {
-    for plan in PLANS {
+    for &plan in PLANS {
         let crew = at(&rt, rt.alloc(), plan, &OpenGate)?;
         expect_rows(&rt, &crew, LEFT.0, LEFT.1, LEFT.2)?;
         expect_fault(&rt, &crew, FAULTS[0].0, FAULTS[0].1, FAULTS[0].2)?;
@@ -319,13 +319,13 @@ fn deep_and_long_sources_have_rows(rt: HostRuntime) -> Result<(), Fail> {
 #[test]
 fn two_workers_meet_at_rows(rt: HostRuntime) -> Result<(), Fail> {
     let before = at(&rt, rt.alloc(), (2, 1), &OpenGate)?;
-    let gate = nobody_yet();
+    let gate = Meeting::new();
     let crew = at(&rt, rt.alloc(), (2, 1), &gate)?;
     match shape(&before, &crew, LEFT.0)? {
         Ok(found) => assert!(rt; found.parents() == LEFT.2),
         Err(_) => assert!(rt; false),
     }
-    assert!(rt; have_met(&gate));
+    assert!(rt; gate.is_held());
     Ok(())
 }
 
@@ -337,10 +337,10 @@ fn count_draws<R: Threads + Sync>(
     source: &[u8],
 ) -> Result<u64, Fail> {
     let before = at(rt, alloc, (workers, 1), &OpenGate)?;
-    let gate = no_draws();
+    let gate = Draws::new();
     let crew = at(rt, alloc, (workers, 1), &gate)?;
     match shape(&before, &crew, source)? {
-        Ok(_) => Ok(drawn(&gate)),
+        Ok(_) => Ok(gate.count()),
         Err(_) => Err("a fault of shape".into()),
     }
 }

@@ -1,4 +1,5 @@
-// The real streams as ends of the program. They tell no bytes, and count their faults.
+//! The streams of the system as ends of the program. They tell no bytes, and count their faults.
+#![tactic(auto)]
 
 ghost use Rattle.std.specs.Prelude.{◌≡◌};
 
@@ -70,50 +71,5 @@ impl<W: Write> ByteOut for Writer<W> {
                 Err(Failed)
             }
         }
-    }
-}
-
-#[cfg(test)]
-mod tests {
-    use super::*;
-    use std::io;
-
-    /// A stream that fails to read, and takes nothing.
-    #[derive(Drop)]
-    struct Broken;
-
-    impl Read for Broken {
-        fn read(&mut self, _buf: &mut [u8]) -> io::Result<usize> {
-            Err(io::Error::from(io::ErrorKind::Other))
-        }
-    }
-
-    impl Write for Broken {
-        fn write(&mut self, _buf: &[u8]) -> io::Result<usize> {
-            Ok(0)
-        }
-
-        fn flush(&mut self) -> io::Result<()> {
-            Ok(())
-        }
-    }
-
-    #[test]
-    fn streams_count_their_faults(rt: HostRuntime) {
-        let mut buffer = [0; 4];
-        let bytes: &[u8] = b"abc";
-        let mut sound = Reader::new(bytes);
-        assert_eq!(rt; sound.read(&mut buffer), Ok(3));
-        assert_eq!(rt; buffer, *b"abc\0");
-        assert_eq!(rt; sound.read(&mut buffer), Ok(0));
-        assert_eq!(rt; sound.faults, 0);
-        let mut broken = Reader::new(Broken);
-        assert_eq!(rt; broken.read(&mut buffer), Err(Failed));
-        assert_eq!(rt; broken.faults, 1);
-        let mut full = Writer::new(Broken);
-        assert_eq!(rt; full.write(b"abc"), Err(Failed));
-        assert_eq!(rt; full.faults, 1);
-        assert_eq!(rt; full.write(b""), Ok(0));
-        assert_eq!(rt; full.faults, 1);
     }
 }

@@ -1,0 +1,12 @@
+//! Crews of every kind for tests, and gates that take down who is at work.
+#![tactic(auto)]
+
+mod crews;
+mod draws;
+mod meeting;
+mod roll;
+
+pub use crews::{OutOfRange, PLANS, at};
+pub use draws::Draws;
+pub use meeting::Meeting;
+pub use roll::Roll;
