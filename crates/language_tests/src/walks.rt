@@ -1,147 +1,223 @@
-// Programs whose outcomes are known, with their trees written out.
+//! Programs whose outcomes are known.
 
-use source_meaning::{
-    Args, BinaryOp, Expr, Function, Outcome, Param, Program, Stmt, Stmts, UnaryOp, ValueType, walk,
-};
-use std::alloc::{AllocError, Global};
+use crate::trees::{Node, program_of};
+use source_meaning::{BinaryOp, Expr, Function, Outcome, Program, Stmt, Stmts, walk};
+use std::alloc::Global;
 use std::test::Fail;
 
 const STACK: u32 = 1 << 20;
+
+/// `fn main(): int { var x: int = 1; return x + (x = 3); }`
+const LEFT_BEFORE_RIGHT: &[Node] = &[
+    Node::Num(1),
+    Node::Var(b"x"),
+    Node::Name(b"x"),
+    Node::Name(b"x"),
+    Node::Num(3),
+    Node::Assign,
+    Node::Binary(BinaryOp::Plus),
+    Node::Return,
+    Node::Block(2),
+    Node::Function(b"main", &[]),
+];
+
+/// `fn f(): int { return f[]; } fn main(): int { return f[]; }`
+const WITHOUT_END: &[Node] = &[
+    Node::Call(b"f", 0),
+    Node::Return,
+    Node::Block(1),
+    Node::Function(b"f", &[]),
+    Node::Call(b"f", 0),
+    Node::Return,
+    Node::Block(1),
+    Node::Function(b"main", &[]),
+];
+
+/// `fn main(): int { while true { } }`
+const ROUND_AND_ROUND: &[Node] = &[
+    Node::True,
+    Node::Block(0),
+    Node::While,
+    Node::Block(1),
+    Node::Function(b"main", &[]),
+];
+
+/// `fn f(var a: int, var b: int): int { return a - b; } fn main(): int { var x: int = 1; return f[x, x = 3]; }`
+const FIRST_ARGUMENT_FIRST: &[Node] = &[
+    Node::Name(b"a"),
+    Node::Name(b"b"),
+    Node::Binary(BinaryOp::Minus),
+    Node::Return,
+    Node::Block(1),
+    Node::Function(b"f", &[b"a", b"b"]),
+    Node::Num(1),
+    Node::Var(b"x"),
+    Node::Name(b"x"),
+    Node::Name(b"x"),
+    Node::Num(3),
+    Node::Assign,
+    Node::Call(b"f", 2),
+    Node::Return,
+    Node::Block(2),
+    Node::Function(b"main", &[]),
+];
+
+/// `fn f0(var a: int): int { var b: int = a * 496 + 200; if b > a { b = b - 46; } else { b = b ^ 46; } return b; }`, and
+/// `fn f1(var a: int): int { var b: int = f0[a + 195] * 312; if b > a { b = b - 216; } else { b = b ^ 216; } return b; }`, and
+/// `fn main(): int { return f1[1]; }`
+const TWO_STEPS: &[Node] = &[
+    Node::Name(b"a"),
+    Node::Num(496),
+    Node::Binary(BinaryOp::Times),
+    Node::Num(200),
+    Node::Binary(BinaryOp::Plus),
+    Node::Var(b"b"),
+    Node::Name(b"b"),
+    Node::Name(b"a"),
+    Node::Binary(BinaryOp::Greater),
+    Node::Name(b"b"),
+    Node::Name(b"b"),
+    Node::Num(46),
+    Node::Binary(BinaryOp::Minus),
+    Node::Assign,
+    Node::Eval,
+    Node::Block(1),
+    Node::Name(b"b"),
+    Node::Name(b"b"),
+    Node::Num(46),
+    Node::Binary(BinaryOp::BitwiseXor),
+    Node::Assign,
+    Node::Eval,
+    Node::Block(1),
+    Node::IfElse,
+    Node::Name(b"b"),
+    Node::Return,
+    Node::Block(3),
+    Node::Function(b"f0", &[b"a"]),
+    Node::Name(b"a"),
+    Node::Num(195),
+    Node::Binary(BinaryOp::Plus),
+    Node::Call(b"f0", 1),
+    Node::Num(312),
+    Node::Binary(BinaryOp::Times),
+    Node::Var(b"b"),
+    Node::Name(b"b"),
+    Node::Name(b"a"),
+    Node::Binary(BinaryOp::Greater),
+    Node::Name(b"b"),
+    Node::Name(b"b"),
+    Node::Num(216),
+    Node::Binary(BinaryOp::Minus),
+    Node::Assign,
+    Node::Eval,
+    Node::Block(1),
+    Node::Name(b"b"),
+    Node::Name(b"b"),
+    Node::Num(216),
+    Node::Binary(BinaryOp::BitwiseXor),
+    Node::Assign,
+    Node::Eval,
+    Node::Block(1),
+    Node::IfElse,
+    Node::Name(b"b"),
+    Node::Return,
+    Node::Block(3),
+    Node::Function(b"f1", &[b"a"]),
+    Node::Num(1),
+    Node::Call(b"f1", 1),
+    Node::Return,
+    Node::Block(1),
+    Node::Function(b"main", &[]),
+];
+
+/// `fn f0(var a: int): int { var b: int = a * 496 + 200; if b > a { b = b - 46; } else { b = b ^ 46; } return b; } fn main(): int { return f0[1]; }`
+const ONE_STEP: &[Node] = &[
+    Node::Name(b"a"),
+    Node::Num(496),
+    Node::Binary(BinaryOp::Times),
+    Node::Num(200),
+    Node::Binary(BinaryOp::Plus),
+    Node::Var(b"b"),
+    Node::Name(b"b"),
+    Node::Name(b"a"),
+    Node::Binary(BinaryOp::Greater),
+    Node::Name(b"b"),
+    Node::Name(b"b"),
+    Node::Num(46),
+    Node::Binary(BinaryOp::Minus),
+    Node::Assign,
+    Node::Eval,
+    Node::Block(1),
+    Node::Name(b"b"),
+    Node::Name(b"b"),
+    Node::Num(46),
+    Node::Binary(BinaryOp::BitwiseXor),
+    Node::Assign,
+    Node::Eval,
+    Node::Block(1),
+    Node::IfElse,
+    Node::Name(b"b"),
+    Node::Return,
+    Node::Block(3),
+    Node::Function(b"f0", &[b"a"]),
+    Node::Num(1),
+    Node::Call(b"f0", 1),
+    Node::Return,
+    Node::Block(1),
+    Node::Function(b"main", &[]),
+];
+
+/// Programs, the bound of steps, the bytes of the stack, and the outcome.
+const OUTCOMES: &[(&[Node], u64, u32, Outcome)] = &[
+    (LEFT_BEFORE_RIGHT, 10, STACK, Outcome::Ended(4)),
+    (LEFT_BEFORE_RIGHT, 1, STACK, Outcome::Ended(4)),
+    (LEFT_BEFORE_RIGHT, 0, STACK, Outcome::More),
+    (LEFT_BEFORE_RIGHT, 10, 15, Outcome::Deep),
+    (WITHOUT_END, 100, 1024, Outcome::Deep),
+    (WITHOUT_END, 63, 1024, Outcome::More),
+    (WITHOUT_END, 100_000, STACK, Outcome::Deep),
+    (WITHOUT_END, 60_000, STACK, Outcome::More),
+    (ROUND_AND_ROUND, 1000, STACK, Outcome::More),
+    (FIRST_ARGUMENT_FIRST, 10, STACK, Outcome::Ended(-2)),
+    (ONE_STEP, 10, STACK, Outcome::Ended(650)),
+    (TWO_STEPS, 10, STACK, Outcome::Ended(30_379_224)),
+];
+
+/// What a walk of a program comes to.
+fn outcome_of(alloc: Global, nodes: &[Node], steps: u64, stack: u32) -> Option<Outcome> {
+    let program = program_of(alloc, nodes)?;
+    walk(alloc, &program, steps, stack).ok()
+}
+
+#[test]
+fn known_outcomes(rt: HostRuntime) {
+    for &(nodes, steps, stack, outcome) in OUTCOMES {
+        let found = outcome_of(rt.alloc(), nodes, steps, stack);
+        assert!(rt; found == Some(outcome), "{outcome:?}");
+    }
+}
+
 /// How deep expressions are nested: an even number.
 const DEPTH: u32 = 100_000;
 
-fn bytes_of(alloc: Global, text: &[u8]) -> Result<Vec<u8>, AllocError> {
-    let mut bytes = Vec::new(alloc);
-    for byte in text {
-        bytes.push(*byte)?;
+/// The same node so many times, behind others.
+fn repeat(nodes: &mut Vec<Node>, node: Node, count: u32) -> Option<()> {
+    for _ in 0..count {
+        nodes.push(node).ok()?;
     }
-    Ok(bytes)
+    Some(())
 }
 
-fn num(value: u32) -> Expr {
-    Expr::Num { at: 0, value }
-}
-
-fn name(alloc: Global, text: &[u8]) -> Result<Expr, AllocError> {
-    Ok(Expr::Name {
-        at: 0,
-        name: bytes_of(alloc, text)?,
-    })
-}
-
-fn binary(alloc: Global, op: BinaryOp, left: Expr, right: Expr) -> Result<Expr, AllocError> {
-    Ok(Expr::Binary {
-        at: 0,
-        op,
-        left: Box::new(alloc, left)?,
-        right: Box::new(alloc, right)?,
-    })
-}
-
-fn assign(alloc: Global, text: &[u8], value: Expr) -> Result<Expr, AllocError> {
-    Ok(Expr::Assign {
-        at: 0,
-        left: Box::new(alloc, name(alloc, text)?)?,
-        right: Box::new(alloc, value)?,
-    })
-}
-
-/// A call with one argument, or with none.
-fn call(alloc: Global, text: &[u8], argument: Option<Expr>) -> Result<Expr, AllocError> {
-    let args = match argument {
-        Some(first) => Args::Then {
-            first: Box::new(alloc, first)?,
-            rest: Box::new(alloc, Args::Done)?,
-        },
-        None => Args::Done,
-    };
-    Ok(Expr::Call {
-        at: 0,
-        name: bytes_of(alloc, text)?,
-        args,
-    })
-}
-
-/// A statement before the others of a block.
-fn before(alloc: Global, first: Stmt, rest: Stmts) -> Result<Stmts, AllocError> {
-    Ok(Stmts::Next {
-        first: Box::new(alloc, first)?,
-        rest: Box::new(alloc, rest)?,
-    })
-}
-
-/// A block of one statement.
-fn only(alloc: Global, first: Stmt) -> Result<Stmt, AllocError> {
-    Ok(Stmt::Block {
-        at: 0,
-        body: before(alloc, first, Stmts::Empty)?,
-    })
-}
-
-fn declare(alloc: Global, text: &[u8], value: Expr) -> Result<Stmt, AllocError> {
-    Ok(Stmt::Var {
-        at: 0,
-        name: bytes_of(alloc, text)?,
-        kind: ValueType::Int,
-        value,
-    })
-}
-
-fn give(value: Expr) -> Stmt {
-    Stmt::Return { at: 0, value }
-}
-
-/// A function without parameters.
-fn function(alloc: Global, text: &[u8], body: Stmt) -> Result<Function, AllocError> {
-    Ok(Function {
-        at: 0,
-        name: bytes_of(alloc, text)?,
-        params: Vec::new(alloc),
-        kind: ValueType::Int,
-        body,
-    })
-}
-
-/// `fn main(): int { var x: int = 1; return x + (x = 3); }`
-#[test]
-fn left_before_right(rt: HostRuntime) -> Result<(), Fail> {
-    let alloc = rt.alloc();
-    let sum = binary(
-        alloc,
-        BinaryOp::Plus,
-        name(alloc, b"x")?,
-        assign(alloc, b"x", num(3))?,
-    )?;
-    let body = before(
-        alloc,
-        declare(alloc, b"x", num(1))?,
-        before(alloc, give(sum), Stmts::Empty)?,
-    )?;
-    let mut functions = Vec::new(alloc);
-    functions.push(function(alloc, b"main", Stmt::Block { at: 0, body })?)?;
-    let program = Program { functions };
-    assert!(rt; walk(alloc, &program, 10, STACK)? == Outcome::Ended(4));
-    assert!(rt; walk(alloc, &program, 1, STACK)? == Outcome::Ended(4));
-    assert!(rt; walk(alloc, &program, 0, STACK)? == Outcome::More);
-    assert!(rt; walk(alloc, &program, 10, 15)? == Outcome::Deep);
-    Ok(())
-}
-
-/// `fn f(): int { return f[]; } fn main(): int { return f[]; }`
-#[test]
-fn without_end(rt: HostRuntime) -> Result<(), Fail> {
-    let alloc = rt.alloc();
-    let mut functions = Vec::new(alloc);
-    for text in [b"f".as_slice(), b"main".as_slice()] {
-        let body = only(alloc, give(call(alloc, b"f", None)?))?;
-        functions.push(function(alloc, text, body)?)?;
-    }
-    let program = Program { functions };
-    assert!(rt; walk(alloc, &program, 100, 1024)? == Outcome::Deep);
-    assert!(rt; walk(alloc, &program, 63, 1024)? == Outcome::More);
-    assert!(rt; walk(alloc, &program, 100_000, STACK)? == Outcome::Deep);
-    assert!(rt; walk(alloc, &program, 60_000, STACK)? == Outcome::More);
-    Ok(())
+/// `fn main(): int { return - .. - (1 - (1 - (.. - 1))); }`, with as many signs as differences.
+fn nested(alloc: Global) -> Option<Vec<Node>> {
+    let mut nodes = Vec::new(alloc);
+    repeat(&mut nodes, Node::Num(1), DEPTH + 1)?;
+    repeat(&mut nodes, Node::Binary(BinaryOp::Minus), DEPTH)?;
+    repeat(&mut nodes, Node::Negate, DEPTH)?;
+    nodes.push(Node::Return).ok()?;
+    nodes.push(Node::Block(1)).ok()?;
+    nodes.push(Node::Function(b"main", &[])).ok()?;
+    Some(nodes)
 }
 
 /// The value that the last function's one statement returns.
@@ -176,195 +252,18 @@ fn take_apart(value: Expr) {
     }
 }
 
-/// `1 - (1 - (.. - 1))`, behind as many signs.
-#[test]
-fn far_inside(rt: HostRuntime) -> Result<(), Fail> {
-    let alloc = rt.alloc();
-    let mut value = num(1);
-    for _ in 0..DEPTH {
-        value = binary(alloc, BinaryOp::Minus, num(1), value)?;
-    }
-    for _ in 0..DEPTH {
-        value = Expr::Unary {
-            at: 0,
-            op: UnaryOp::Negate,
-            operand: Box::new(alloc, value)?,
-        };
-    }
-    let mut functions = Vec::new(alloc);
-    functions.push(function(alloc, b"main", only(alloc, give(value))?)?)?;
-    let program = Program { functions };
-    let outcome = walk(alloc, &program, 1, STACK)?;
+/// What a walk of a deep program comes to.
+fn deep_outcome(alloc: Global) -> Option<Outcome> {
+    let nodes = nested(alloc)?;
+    let program = program_of(alloc, &nodes)?;
+    let outcome = walk(alloc, &program, 1, STACK).ok();
     if let Some(returned) = value_of_last(program) {
         take_apart(returned);
     }
-    assert!(rt; outcome == Outcome::Ended(1));
-    Ok(())
+    outcome
 }
 
-/// `fn main(): int { while true { } }`
 #[test]
-fn round_and_round(rt: HostRuntime) -> Result<(), Fail> {
-    let alloc = rt.alloc();
-    let turn = Stmt::While {
-        at: 0,
-        condition: Expr::Truth { at: 0, value: true },
-        body: Box::new(
-            alloc,
-            Stmt::Block {
-                at: 0,
-                body: Stmts::Empty,
-            },
-        )?,
-    };
-    let mut functions = Vec::new(alloc);
-    functions.push(function(alloc, b"main", only(alloc, turn)?)?)?;
-    let program = Program { functions };
-    assert!(rt; walk(alloc, &program, 1000, STACK)? == Outcome::More);
-    Ok(())
-}
-
-/// `fn NAME(var a: int): int { var b: int = START * p + q; if b > a { b = b - r; } else { b = b ^ r; } return b; }`
-fn step_of(
-    alloc: Global,
-    text: &[u8],
-    first: Expr,
-    subtracted: u32,
-) -> Result<Function, AllocError> {
-    let less = binary(alloc, BinaryOp::Minus, name(alloc, b"b")?, num(subtracted))?;
-    let mixed = binary(
-        alloc,
-        BinaryOp::BitwiseXor,
-        name(alloc, b"b")?,
-        num(subtracted),
-    )?;
-    let choice = Stmt::IfElse {
-        at: 0,
-        condition: binary(
-            alloc,
-            BinaryOp::Greater,
-            name(alloc, b"b")?,
-            name(alloc, b"a")?,
-        )?,
-        then: Box::new(
-            alloc,
-            only(
-                alloc,
-                Stmt::Eval {
-                    value: assign(alloc, b"b", less)?,
-                },
-            )?,
-        )?,
-        otherwise: Box::new(
-            alloc,
-            only(
-                alloc,
-                Stmt::Eval {
-                    value: assign(alloc, b"b", mixed)?,
-                },
-            )?,
-        )?,
-    };
-    let end = before(alloc, give(name(alloc, b"b")?), Stmts::Empty)?;
-    let body = before(
-        alloc,
-        declare(alloc, b"b", first)?,
-        before(alloc, choice, end)?,
-    )?;
-    let mut params = Vec::new(alloc);
-    params.push(Param {
-        at: 0,
-        name: bytes_of(alloc, b"a")?,
-        kind: ValueType::Int,
-    })?;
-    Ok(Function {
-        at: 0,
-        name: bytes_of(alloc, text)?,
-        params,
-        kind: ValueType::Int,
-        body: Stmt::Block { at: 0, body },
-    })
-}
-
-/// Two functions that are called one by the other: `f0` has `a * 496 + 200` and 46, `f1` has `f0[a + 195] * 312` and 216.
-#[test]
-fn two_steps(rt: HostRuntime) -> Result<(), Fail> {
-    let alloc = rt.alloc();
-    let product = binary(alloc, BinaryOp::Times, name(alloc, b"a")?, num(496))?;
-    let first = binary(alloc, BinaryOp::Plus, product, num(200))?;
-    let sum = binary(alloc, BinaryOp::Plus, name(alloc, b"a")?, num(195))?;
-    let called = call(alloc, b"f0", Some(sum))?;
-    let second = binary(alloc, BinaryOp::Times, called, num(312))?;
-    let mut functions = Vec::new(alloc);
-    functions.push(step_of(alloc, b"f0", first, 46)?)?;
-    functions.push(step_of(alloc, b"f1", second, 216)?)?;
-    let start = only(alloc, give(call(alloc, b"f1", Some(num(1)))?))?;
-    functions.push(function(alloc, b"main", start)?)?;
-    let program = Program { functions };
-    assert!(rt; walk(alloc, &program, 10, STACK)? == Outcome::Ended(30_379_224));
-    Ok(())
-}
-
-/// `fn f(var a: int, var b: int): int { return a - b; } fn main(): int { var x: int = 1; return f[x, x = 3]; }`
-#[test]
-fn first_argument_first(rt: HostRuntime) -> Result<(), Fail> {
-    let alloc = rt.alloc();
-    let less = binary(
-        alloc,
-        BinaryOp::Minus,
-        name(alloc, b"a")?,
-        name(alloc, b"b")?,
-    )?;
-    let mut params = Vec::new(alloc);
-    for text in [b"a".as_slice(), b"b".as_slice()] {
-        params.push(Param {
-            at: 0,
-            name: bytes_of(alloc, text)?,
-            kind: ValueType::Int,
-        })?;
-    }
-    let last = Args::Then {
-        first: Box::new(alloc, assign(alloc, b"x", num(3))?)?,
-        rest: Box::new(alloc, Args::Done)?,
-    };
-    let called = Expr::Call {
-        at: 0,
-        name: bytes_of(alloc, b"f")?,
-        args: Args::Then {
-            first: Box::new(alloc, name(alloc, b"x")?)?,
-            rest: Box::new(alloc, last)?,
-        },
-    };
-    let body = before(
-        alloc,
-        declare(alloc, b"x", num(1))?,
-        before(alloc, give(called), Stmts::Empty)?,
-    )?;
-    let mut functions = Vec::new(alloc);
-    functions.push(Function {
-        at: 0,
-        name: bytes_of(alloc, b"f")?,
-        params,
-        kind: ValueType::Int,
-        body: only(alloc, give(less))?,
-    })?;
-    functions.push(function(alloc, b"main", Stmt::Block { at: 0, body })?)?;
-    let program = Program { functions };
-    assert!(rt; walk(alloc, &program, 10, STACK)? == Outcome::Ended(-2));
-    Ok(())
-}
-
-/// `f0` alone.
-#[test]
-fn one_step(rt: HostRuntime) -> Result<(), Fail> {
-    let alloc = rt.alloc();
-    let product = binary(alloc, BinaryOp::Times, name(alloc, b"a")?, num(496))?;
-    let first = binary(alloc, BinaryOp::Plus, product, num(200))?;
-    let mut functions = Vec::new(alloc);
-    functions.push(step_of(alloc, b"f0", first, 46)?)?;
-    let start = only(alloc, give(call(alloc, b"f0", Some(num(1)))?))?;
-    functions.push(function(alloc, b"main", start)?)?;
-    let program = Program { functions };
-    assert!(rt; walk(alloc, &program, 10, STACK)? == Outcome::Ended(650));
-    Ok(())
+fn far_inside(rt: HostRuntime) {
+    assert!(rt; deep_outcome(rt.alloc()) == Some(Outcome::Ended(1)));
 }

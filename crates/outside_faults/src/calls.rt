@@ -126,6 +126,19 @@ fn numbers(alloc: Global, number: Option<u64>) -> Result<Vec<u64>, AllocError> {
     Ok(numbers)
 }
 
+// The input, the output and the notes of a call of which one fails so.
+fn ends_of(
+    alloc: Global,
+    input: &[u8],
+    fault: Fault,
+) -> Result<(MemoryIn, MemoryOut, MemoryOut), AllocError> {
+    let bytes = input.to_vec(alloc)?;
+    let input = MemoryIn::new(bytes, 10, numbers(alloc, fault.of_reads())?);
+    let out = MemoryOut::new(alloc, ROOM, 1, numbers(alloc, fault.of_output())?)?;
+    let notes = MemoryOut::new(alloc, ROOM, 1, numbers(alloc, fault.of_notes())?)?;
+    Ok((input, out, notes))
+}
+
 /// Calls the program over ends of which one fails so, and sees that it answers this.
 pub fn expect<R: Threads + Abort + Sync>(
     rt: &R,
@@ -135,10 +148,7 @@ pub fn expect<R: Threads + Abort + Sync>(
     answer: Answer,
 ) -> Result<(), AllocError> {
     let words = all_words(alloc, call.words)?;
-    let bytes = call.input.to_vec(alloc)?;
-    let mut input = MemoryIn::new(bytes, 10, numbers(alloc, fault.of_reads())?);
-    let mut out = MemoryOut::new(alloc, ROOM, 1, numbers(alloc, fault.of_output())?)?;
-    let mut notes = MemoryOut::new(alloc, ROOM, 1, numbers(alloc, fault.of_notes())?)?;
+    let (mut input, mut out, mut notes) = ends_of(alloc, call.input, fault)?;
     let status = pareas(
         rt, alloc, &words, &mut input, &mut out, &mut notes, &OpenGate,
     );

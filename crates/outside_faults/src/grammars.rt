@@ -1,6 +1,6 @@
 // Grammar files past a limit, and at it.
 
-use crate::calls::{Answer, Call, Fault, done, expect, refused};
+use crate::calls::{Answer, Call, Fault, expect};
 use pareas_core::Status;
 use std::alloc::{AllocError, Global};
 use std::process::Abort;
@@ -49,31 +49,85 @@ fn of_terminals(alloc: Global, count: usize) -> Result<Vec<u8>, AllocError> {
     Ok(file)
 }
 
-#[test]
-fn files_past_a_limit(rt: HostRuntime) -> Result<(), Fail> {
-    let alloc = rt.alloc();
-    let rows = [
-        (repeated(alloc, b" ", 65_537)?, "grammar too large\n"),
-        (of_one_terminal(alloc, 17)?, "grammar long 1\n"),
-        (of_terminals(alloc, 256)?, "grammar symbols\n"),
-        (repeated(alloc, b"S -> a\n", 513)?, "grammar productions\n"),
-    ];
-    for (file, line) in &rows {
-        let refusal = refused(Status::BadGrammar, line.as_bytes());
-        expect_of(&rt, alloc, file, refusal)?;
-    }
-    Ok(())
+/// What a file has, so many times.
+#[derive(Clone, Copy)]
+enum Content {
+    Spaces,
+    /// The same terminal, in one production.
+    Terminal,
+    /// Terminals that all differ.
+    Terminals,
+    Productions,
 }
 
+/// The file that has this so many times.
+fn file_of(alloc: Global, what: Content, count: usize) -> Result<Vec<u8>, AllocError> {
+    match what {
+        Content::Spaces => repeated(alloc, b" ", count),
+        Content::Terminal => of_one_terminal(alloc, count),
+        Content::Terminals => of_terminals(alloc, count),
+        Content::Productions => repeated(alloc, b"S -> a\n", count),
+    }
+}
+
+/// Files past a limit, and files at it: what they have, how often, the status, the result and the notes.
+const FILES: &[(Content, usize, Status, &[u8], &[u8])] = &[
+    (
+        Content::Spaces,
+        65_537,
+        Status::BadGrammar,
+        b"",
+        b"grammar too large\n",
+    ),
+    (
+        Content::Terminal,
+        17,
+        Status::BadGrammar,
+        b"",
+        b"grammar long 1\n",
+    ),
+    (
+        Content::Terminals,
+        256,
+        Status::BadGrammar,
+        b"",
+        b"grammar symbols\n",
+    ),
+    (
+        Content::Productions,
+        513,
+        Status::BadGrammar,
+        b"",
+        b"grammar productions\n",
+    ),
+    (
+        Content::Terminal,
+        16,
+        Status::Done,
+        b"terminals 1\nnonterminals 1\nproductions 1\nentries 3\n",
+        b"",
+    ),
+    (
+        Content::Terminals,
+        255,
+        Status::Done,
+        b"terminals 255\nnonterminals 1\nproductions 16\nentries 271\n",
+        b"",
+    ),
+    (
+        Content::Productions,
+        512,
+        Status::Conflict,
+        b"",
+        b"conflict S on a: productions 1 2\n",
+    ),
+];
+
 #[test]
-fn files_at_a_limit(rt: HostRuntime) -> Result<(), Fail> {
-    let alloc = rt.alloc();
-    let lines = repeated(alloc, b"S -> a\n", 512)?;
-    let conflict = refused(Status::Conflict, b"conflict S on a: productions 1 2\n");
-    expect_of(&rt, alloc, &lines, conflict)?;
-    let long = b"terminals 1\nnonterminals 1\nproductions 1\nentries 3\n";
-    expect_of(&rt, alloc, &of_one_terminal(alloc, 16)?, done(long))?;
-    let many = b"terminals 255\nnonterminals 1\nproductions 16\nentries 271\n";
-    expect_of(&rt, alloc, &of_terminals(alloc, 255)?, done(many))?;
+fn files_past_a_limit_and_at_it(rt: HostRuntime) -> Result<(), Fail> {
+    for &(what, count, status, out, notes) in FILES {
+        let file = file_of(rt.alloc(), what, count)?;
+        expect_of(&rt, rt.alloc(), &file, Answer { status, out, notes })?;
+    }
     Ok(())
 }

@@ -104,70 +104,93 @@ fn expect_reads<R: Threads + Abort + Sync>(
     Ok(())
 }
 
-fn row<'a>(
-    command: &'a str,
-    (count, limit): (usize, usize),
-    (step, reads): (usize, u64),
-    notes: &'a [u8],
-) -> Spaces<'a> {
-    Spaces {
-        command,
-        count,
-        limit,
-        step,
-        reads,
-        notes,
-    }
-}
-
 const MOST_SOURCE: usize = 1_048_576;
 
 const MOST_IMAGE: usize = 67_108_864;
 
 const MOST_GRAMMAR: usize = 65_536;
 
+/// Inputs below a limit, and past it.
+const INPUTS: &[Spaces] = &[
+    Spaces {
+        command: "build",
+        count: 28,
+        limit: MOST_SOURCE,
+        step: 10,
+        reads: 4,
+        notes: b"error 405 at 1:29\n",
+    },
+    Spaces {
+        command: "build",
+        count: 1_048_577,
+        limit: MOST_SOURCE,
+        step: 4096,
+        reads: 257,
+        notes: b"limit 601 at 1:1048577\n",
+    },
+    Spaces {
+        command: "run",
+        count: 1_048_600,
+        limit: MOST_SOURCE,
+        step: 1000,
+        reads: 1049,
+        notes: b"limit 601 at 1:1048577\n",
+    },
+    Spaces {
+        command: "emu",
+        count: 144,
+        limit: MOST_IMAGE,
+        step: 10,
+        reads: 16,
+        notes: b"image Magic\n",
+    },
+    Spaces {
+        command: "table",
+        count: 65_536,
+        limit: MOST_GRAMMAR,
+        step: 4096,
+        reads: 17,
+        notes: b"grammar empty\n",
+    },
+    Spaces {
+        command: "table",
+        count: 65_537,
+        limit: MOST_GRAMMAR,
+        step: 4096,
+        reads: 17,
+        notes: b"grammar too large\n",
+    },
+    Spaces {
+        command: "table",
+        count: 70_000,
+        limit: MOST_GRAMMAR,
+        step: 1000,
+        reads: 66,
+        notes: b"grammar too large\n",
+    },
+];
+
 #[test]
 fn reads_up_to_one_byte_past_the_limit(rt: HostRuntime) -> Result<(), Fail> {
-    let past: &[u8] = b"limit 601 at 1:1048577\n";
-    let rows = [
-        row("build", (28, MOST_SOURCE), (10, 4), b"error 405 at 1:29\n"),
-        row("build", (1_048_577, MOST_SOURCE), (4096, 257), past),
-        row("run", (1_048_600, MOST_SOURCE), (1000, 1049), past),
-        row("emu", (144, MOST_IMAGE), (10, 16), b"image Magic\n"),
-        row(
-            "table",
-            (65_536, MOST_GRAMMAR),
-            (4096, 17),
-            b"grammar empty\n",
-        ),
-        row(
-            "table",
-            (65_537, MOST_GRAMMAR),
-            (4096, 17),
-            b"grammar too large\n",
-        ),
-        row(
-            "table",
-            (70_000, MOST_GRAMMAR),
-            (1000, 66),
-            b"grammar too large\n",
-        ),
-    ];
-    for row in &rows {
-        expect_reads(&rt, rt.alloc(), *row)?;
+    for &row in INPUTS {
+        expect_reads(&rt, rt.alloc(), row)?;
     }
     Ok(())
 }
 
+/// More bytes than an image has.
+const PAST_IMAGES: Spaces = Spaces {
+    command: "emu",
+    count: 67_108_865,
+    limit: MOST_IMAGE,
+    step: 4096,
+    reads: 16_385,
+    notes: b"image TooLarge\n",
+};
+
 #[test]
 fn reads_up_to_one_byte_past_the_limit_of_images(rt: HostRuntime) -> Result<(), Fail> {
-    let past = row(
-        "emu",
-        (67_108_865, MOST_IMAGE),
-        (4096, 16_385),
-        b"image TooLarge\n",
-    );
-    expect_reads(&rt, rt.alloc(), past)?;
+    expect_reads(&rt, rt.alloc(), PAST_IMAGES)?;
     Ok(())
 }
 
@@ -201,23 +224,25 @@ fn expect_writes<R: Threads + Abort + Sync>(
     Ok(())
 }
 
+/// The words of a call, its input, and how many bytes and writes the result has, and the notes.
+const OUTPUTS: &[(&[&str], &[u8], (usize, u64), (usize, u64))] = &[
+    (&["build"], SEVEN, (144, 15), (0, 0)),
+    (&["run"], SEVEN, (7, 1), (0, 0)),
+    (&["emu"], &SEVEN_FILE, (7, 1), (0, 0)),
+    (&["table"], b"S -> a", (51, 6), (0, 0)),
+    (
+        &["drill", "--seed", "1", "--functions", "1"],
+        b"",
+        (40, 4),
+        (0, 0),
+    ),
+    (&["build"], b"", (0, 0), (17, 2)),
+    (&["--version"], b"", (0, 0), (13, 2)),
+];
+
 #[test]
 fn writes_hand_over_all_that_is_left(rt: HostRuntime) -> Result<(), Fail> {
-    let rows: &[(&[&str], &[u8], (usize, u64), (usize, u64))] = &[
-        (&["build"], SEVEN, (144, 15), (0, 0)),
-        (&["run"], SEVEN, (7, 1), (0, 0)),
-        (&["emu"], &SEVEN_FILE, (7, 1), (0, 0)),
-        (&["table"], b"S -> a", (51, 6), (0, 0)),
-        (
-            &["drill", "--seed", "1", "--functions", "1"],
-            b"",
-            (40, 4),
-            (0, 0),
-        ),
-        (&["build"], b"", (0, 0), (17, 2)),
-        (&["--version"], b"", (0, 0), (13, 2)),
-    ];
-    for &(words, input, out, notes) in rows {
+    for &(words, input, out, notes) in OUTPUTS {
         expect_writes(&rt, rt.alloc(), Call { words, input }, out, notes)?;
     }
     Ok(())

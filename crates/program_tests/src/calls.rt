@@ -1,5 +1,3 @@
-ghost use Rattle.std.specs.Prelude.{◌≤◌};
-
 use chunk_seats::OpenGate;
 use elf_file::write;
 use pareas_core::{ByteIn, MemoryIn, MemoryOut, Status, pareas};
@@ -23,343 +21,8 @@ const SEVEN_FILE: [u8; 144] = [
     0x83, 0x20, 0xc1, 0x00, 0x83, 0x24, 0x81, 0x00, 0x13, 0x01, 0x01, 0x01, 0x67, 0x80, 0x00, 0x00, //
 ];
 
-/// How the ends behave: the bytes of one call, and the calls that fail.
-#[derive(Clone, Copy)]
-pub(crate) struct Ends<'a> {
-    read_step: usize,
-    failing_reads: &'a [u64],
-    write_step: usize,
-    failing_writes: &'a [u64],
-    ghost read_some: { 1 ≤ read_step },
-    ghost write_some: { 1 ≤ write_step },
-}
-
-/// Room for more bytes than any of these calls writes.
-const ROOM: usize = 1 << 16;
-
-/// Ends that never fail.
-pub(crate) const SOUND: Ends = Ends {
-    read_step: 4096,
-    failing_reads: &[],
-    write_step: 4096,
-    failing_writes: &[],
-};
-
-/// The program's words, each a copy.
-fn words_of(alloc: Global, words: &[&str]) -> Result<Vec<String>, AllocError> {
-    let mut all = Vec::new(alloc);
-    for word in words {
-        all.push(String::from_str(alloc, word)?)?;
-    }
-    Ok(all)
-}
-
-/// Runs the program over memory, and sees that it ends so and has written this.
-pub(crate) fn expect<R: Threads + Abort + Sync>(
-    rt: &R,
-    alloc: Global,
-    words: &[&str],
-    source: &[u8],
-    ends: &Ends,
-    (status, out, notes): (Status, &[u8], &[u8]),
-) -> Result<(), AllocError> {
-    let words = words_of(alloc, words)?;
-    let mut input = MemoryIn::new(
-        source.to_vec(alloc)?,
-        ends.read_step,
-        ends.failing_reads.to_vec(alloc)?,
-    );
-    let failing = ends.failing_writes;
-    let mut to_out = MemoryOut::new(alloc, ROOM, ends.write_step, failing.to_vec(alloc)?)?;
-    let mut to_notes = MemoryOut::new(alloc, ROOM, ends.write_step, failing.to_vec(alloc)?)?;
-    let ended = pareas(
-        rt,
-        alloc,
-        &words,
-        &mut input,
-        &mut to_out,
-        &mut to_notes,
-        &OpenGate,
-    );
-    assert_eq!(rt; ended, status);
-    assert_eq!(rt; to_out.written(), out);
-    assert_eq!(rt; to_notes.written(), notes);
-    Ok(())
-}
-
-const BUILD: [&str; 2] = ["pareas", "build"];
-
-#[test]
-fn builds_however_bytes_are_cut(rt: HostRuntime) -> Result<(), Fail> {
-    for step in [1, 7, 4096] {
-        let ends = Ends {
-            read_step: step,
-            write_step: step,
-            failing_reads: &[],
-            failing_writes: &[],
-        };
-        expect(
-            &rt,
-            rt.alloc(),
-            &BUILD,
-            SEVEN,
-            &ends,
-            (Status::Done, &SEVEN_FILE, b""),
-        )?;
-    }
-    Ok(())
-}
-
-#[test]
-fn builds_any_white_space_and_leading_zeros(rt: HostRuntime) -> Result<(), Fail> {
-    let done: (Status, &[u8], &[u8]) = (Status::Done, &SEVEN_FILE, b"");
-    expect(
-        &rt,
-        rt.alloc(),
-        &BUILD,
-        b"fn main(): int { return 0000000007; }",
-        &SOUND,
-        done,
-    )?;
-    expect(
-        &rt,
-        rt.alloc(),
-        &BUILD,
-        b"\tfn\r\nmain ( )\n:int{return\t7;}\r\n",
-        &SOUND,
-        done,
-    )?;
-    Ok(())
-}
-
-#[test]
-fn refuses_sources_with_their_lines(rt: HostRuntime) -> Result<(), Fail> {
-    let rows: [(&[u8], &[u8]); 4] = [
-        (b"", b"error 405 at 1:1\n"),
-        (
-            b"fn main(): int { return 2147483648; }",
-            b"error 102 at 1:25\n",
-        ),
-        (
-            b"fn main(): int {\nreturn true;\n    $\n}",
-            b"error 101 at 3:5\n",
-        ),
-        (
-            b"fn main(): int {\nreturn true;\n\n}",
-            b"error 505 at 2:1\n",
-        ),
-    ];
-    for (source, line) in rows {
-        expect(
-            &rt,
-            rt.alloc(),
-            &BUILD,
-            source,
-            &SOUND,
-            (Status::Refused, b"", line),
-        )?;
-    }
-    let commented = b"fn main(): int { return 7; } // end";
-    expect(
-        &rt,
-        rt.alloc(),
-        &BUILD,
-        commented,
-        &SOUND,
-        (Status::Done, &SEVEN_FILE, b""),
-    )?;
-    let spaces = vec![in rt.alloc(); b' '; 1_048_577]?;
-    let limit: (Status, &[u8], &[u8]) = (Status::Limit, b"", b"limit 601 at 1:1048577\n");
-    expect(&rt, rt.alloc(), &BUILD, &spaces, &SOUND, limit)?;
-    Ok(())
-}
-
-/// Sources of one expression or some statements, and what `run` prints.
-const PROGRAMS: [(&[u8], &[u8]); 8] = [
-    (b"fn main(): int { return 8-3-2; }", b"exit 3\n"),
-    (
-        b"fn main(): int { return (-2147483647-1)/-1; }",
-        b"exit -2147483648\n",
-    ),
-    (b"fn main(): int { return 1/0; }", b"exit -1\n"),
-    (b"fn main(): int { return 5%0; }", b"exit 5\n"),
-    (b"fn main(): int { return 1<<33; }", b"exit 2\n"),
-    (
-        b"fn main(): int { var x: int = 1; return x + (x = 3); }",
-        b"exit 4\n",
-    ),
-    (
-        b"fn le(): bool { return 1<=2 == true; } fn main(): int { if le[] { return 1; } return 0; }",
-        b"exit 1\n",
-    ),
-    (
-        b"fn f(var a: int): int { return a; } fn main(): int { return 1+(2+(3+(4+(5+(6+(7+(8+(9+(10+(11+(12+(13+f[14])))))))))))); }",
-        b"exit 105\n",
-    ),
-];
-
-const ENDLESS: &[u8] = b"fn main(): int { while true { } }";
-
-const DEEP: &[u8] = b"fn f(): int { return f[]; } fn main(): int { return f[]; }";
-
-const RUN: [&str; 2] = ["pareas", "run"];
-
-#[test]
-fn runs_programs_of_the_whole_language(rt: HostRuntime) -> Result<(), Fail> {
-    for (source, out) in PROGRAMS {
-        let done: (Status, &[u8], &[u8]) = (Status::Done, out, b"");
-        expect(&rt, rt.alloc(), &RUN, source, &SOUND, done)?;
-    }
-    Ok(())
-}
-
-#[test]
-fn runs_the_same_for_every_plan(rt: HostRuntime) -> Result<(), Fail> {
-    for workers in ["1", "4", "64"] {
-        for chunk in ["1", "7", "65536"] {
-            let words = ["pareas", "run", "--workers", workers, "--chunk", chunk];
-            for (source, out) in PROGRAMS {
-                let done: (Status, &[u8], &[u8]) = (Status::Done, out, b"");
-                expect(&rt, rt.alloc(), &words, source, &SOUND, done)?;
-            }
-        }
-    }
-    Ok(())
-}
-
-#[test]
-fn runs_that_do_not_exit(rt: HostRuntime) -> Result<(), Fail> {
-    for steps in ["0", "1", "1000"] {
-        let words = ["pareas", "run", "--steps", steps];
-        let running: (Status, &[u8], &[u8]) = (Status::Running, b"running\n", b"");
-        expect(&rt, rt.alloc(), &words, ENDLESS, &SOUND, running)?;
-    }
-    let words = ["pareas", "run", "--steps", "327682"];
-    let running: (Status, &[u8], &[u8]) = (Status::Running, b"running\n", b"");
-    expect(&rt, rt.alloc(), &words, DEEP, &SOUND, running)?;
-    let words = ["pareas", "run", "--steps", "327683"];
-    let overrun: (Status, &[u8], &[u8]) = (Status::Machine, b"fault store at 0x00010064\n", b"");
-    expect(&rt, rt.alloc(), &words, DEEP, &SOUND, overrun)?;
-    Ok(())
-}
-
-/// Sees that all these bytes are left on the input.
-fn expect_unread<R: Abort>(rt: &R, input: &mut MemoryIn, bytes: &[u8]) {
-    let mut buffer = [0; 64];
-    let count = input.read(&mut buffer).unwrap_or(0);
-    assert_eq!(rt; &buffer[..count.min(64)], bytes);
-}
-
-/// Sees that the words are refused: nothing is read, nothing goes to the output, and a text that begins so to the notes.
-fn expect_refusal<R: Threads + Abort + Sync>(
-    rt: &R,
-    alloc: Global,
-    words: &[&str],
-    beginning: &[u8],
-) -> Result<(), AllocError> {
-    let words = words_of(alloc, words)?;
-    let mut input = MemoryIn::new(SEVEN.to_vec(alloc)?, 4096, Vec::new(alloc));
-    let mut out = MemoryOut::new(alloc, ROOM, 4096, Vec::new(alloc))?;
-    let mut notes = MemoryOut::new(alloc, ROOM, 4096, Vec::new(alloc))?;
-    let ended = pareas(
-        rt, alloc, &words, &mut input, &mut out, &mut notes, &OpenGate,
-    );
-    assert_eq!(rt; ended, Status::Usage);
-    assert!(rt; out.written().is_empty());
-    assert!(rt; notes.written().starts_with(beginning));
-    expect_unread(rt, &mut input, SEVEN);
-    Ok(())
-}
-
-#[test]
-fn refuses_words(rt: HostRuntime) -> Result<(), Fail> {
-    let rows: [(&[&str], &[u8]); 10] = [
-        (&["pareas"], b"error: 'pareas' requires a subcommand"),
-        (
-            &["pareas", "drill", "--seed", "1", "--functions", "0"],
-            b"error: invalid value '0'",
-        ),
-        (&["pareas", "drill", "--functions", "1"], b"error: "),
-        (
-            &["pareas", "bild"],
-            b"error: unrecognized subcommand 'bild'",
-        ),
-        (
-            &["pareas", "build", "--workers", "65"],
-            b"error: invalid value '65'",
-        ),
-        (
-            &["pareas", "build", "--chunk", "0"],
-            b"error: invalid value '0'",
-        ),
-        (&["pareas", "run", "--steps"], b"error: a value is required"),
-        (&["pareas", "--help"], b"A parallel compiler"),
-        (
-            &["pareas", "help", "drill"],
-            b"Compiles and runs a program made from a seed, as in `pareas drill --seed 1 --functions 2`",
-        ),
-        (&["pareas", "--version"], b"pareas 0.1.0\n"),
-    ];
-    for (words, beginning) in rows {
-        expect_refusal(&rt, rt.alloc(), words, beginning)?;
-    }
-    Ok(())
-}
-
-#[test]
-fn builds_the_same_for_every_plan(rt: HostRuntime) -> Result<(), Fail> {
-    for workers in ["1", "4", "64"] {
-        for chunk in ["1", "7", "65536"] {
-            let words = ["pareas", "build", "--workers", workers, "--chunk", chunk];
-            let done: (Status, &[u8], &[u8]) = (Status::Done, &SEVEN_FILE, b"");
-            expect(&rt, rt.alloc(), &words, SEVEN, &SOUND, done)?;
-        }
-    }
-    Ok(())
-}
-
-#[test]
-fn runs_for_so_many_steps(rt: HostRuntime) -> Result<(), Fail> {
-    let rows: [(&str, Status, &[u8]); 3] = [
-        ("14", Status::Done, b"exit 7\n"),
-        ("13", Status::Running, b"running\n"),
-        ("0", Status::Running, b"running\n"),
-    ];
-    for (steps, status, out) in rows {
-        let words = ["pareas", "run", "--steps", steps];
-        expect(&rt, rt.alloc(), &words, SEVEN, &SOUND, (status, out, b""))?;
-    }
-    let empty: (Status, &[u8], &[u8]) = (Status::Refused, b"", b"error 405 at 1:1\n");
-    expect(&rt, rt.alloc(), &["pareas", "run"], b"", &SOUND, empty)?;
-    Ok(())
-}
-
-const EMU: [&str; 2] = ["pareas", "emu"];
-
-#[test]
-fn emulates_images(rt: HostRuntime) -> Result<(), Fail> {
-    let mut other_machine = SEVEN_FILE;
-    other_machine[18] = 0;
-    let rows: [(&[u8], Status, &[u8], &[u8]); 4] = [
-        (&SEVEN_FILE, Status::Done, b"exit 7\n", b""),
-        (
-            &SEVEN_FILE[..143],
-            Status::BadImage,
-            b"",
-            b"image Segment 0\n",
-        ),
-        (&SEVEN_FILE[..51], Status::BadImage, b"", b"image Short\n"),
-        (&other_machine, Status::BadImage, b"", b"image Machine\n"),
-    ];
-    for (file, status, out, notes) in rows {
-        expect(&rt, rt.alloc(), &EMU, file, &SOUND, (status, out, notes))?;
-    }
-    Ok(())
-}
-
-/// Images of one word or two that fault.
 /// The listing of `SEVEN_FILE`.
-const SEVEN_LISTING: &str = "\
+const SEVEN_LISTING: &[u8] = b"\
 # 0x00010054
 jal x1, 12
 addi x17, x0, 93
@@ -378,200 +41,695 @@ addi x2, x2, 16
 jalr x0, 0(x1)
 ";
 
-#[test]
-fn lists_images(rt: HostRuntime) -> Result<(), Fail> {
-    let rows: [(&[u8], Status, &[u8], &[u8]); 3] = [
-        (&SEVEN_FILE, Status::Done, SEVEN_LISTING.as_bytes(), b""),
-        (&SEVEN_FILE[..51], Status::BadImage, b"", b"image Short\n"),
-        (
-            &SEVEN_FILE[..143],
-            Status::BadImage,
-            b"",
-            b"image Segment 0\n",
-        ),
-    ];
-    for (file, status, out, notes) in rows {
-        let words = ["pareas", "dump"];
-        expect(&rt, rt.alloc(), &words, file, &SOUND, (status, out, notes))?;
+const ENDLESS: &[u8] = b"fn main(): int { while true { } }";
+
+const DEEP: &[u8] = b"fn f(): int { return f[]; } fn main(): int { return f[]; }";
+
+/// The words behind the program's name, the options of a plan behind them, and the bytes of the input.
+#[derive(Clone, Copy)]
+pub(crate) struct Call<'a> {
+    pub(crate) words: &'a [&'a str],
+    pub(crate) plan: &'a [&'a str],
+    pub(crate) source: &'a [u8],
+}
+
+/// How the ends behave: the bytes of one read or write, and the reads and writes that fail.
+#[derive(Clone, Copy)]
+pub(crate) struct Ends<'a> {
+    step: usize,
+    failing_reads: &'a [u64],
+    failing_writes: &'a [u64],
+}
+
+/// Ends that never fail.
+pub(crate) const SOUND: Ends = Ends {
+    step: 4096,
+    failing_reads: &[],
+    failing_writes: &[],
+};
+
+/// Room for more bytes than any of these calls writes.
+const ROOM: usize = 1 << 16;
+
+/// The program's name and the words of a call, each a copy.
+fn words_of(alloc: Global, call: Call) -> Result<Vec<String>, AllocError> {
+    let mut all = Vec::new(alloc);
+    all.push(String::from_str(alloc, "pareas")?)?;
+    for word in call.words {
+        all.push(String::from_str(alloc, word)?)?;
+    }
+    for word in call.plan {
+        all.push(String::from_str(alloc, word)?)?;
+    }
+    Ok(all)
+}
+
+/// The input, the output and the notes of a call.
+fn memory_of<R: Abort>(
+    rt: &R,
+    alloc: Global,
+    source: &[u8],
+    ends: Ends,
+) -> Result<(MemoryIn, MemoryOut, MemoryOut), AllocError> {
+    assert!(rt; ends.step > 0);
+    let failing_reads = ends.failing_reads.to_vec(alloc)?;
+    let input = MemoryIn::new(source.to_vec(alloc)?, ends.step, failing_reads);
+    let failing = ends.failing_writes;
+    let out = MemoryOut::new(alloc, ROOM, ends.step, failing.to_vec(alloc)?)?;
+    let notes = MemoryOut::new(alloc, ROOM, ends.step, failing.to_vec(alloc)?)?;
+    Ok((input, out, notes))
+}
+
+/// The status of a call, and its ends as they are left.
+#[derive(Drop)]
+struct Ended {
+    status: Status,
+    input: MemoryIn,
+    out: MemoryOut,
+    notes: MemoryOut,
+}
+
+/// Calls the program over memory.
+fn called<R: Threads + Abort + Sync>(
+    rt: &R,
+    alloc: Global,
+    call: Call,
+    ends: Ends,
+) -> Result<Ended, AllocError> {
+    let words = words_of(alloc, call)?;
+    let (mut input, mut out, mut notes) = memory_of(rt, alloc, call.source, ends)?;
+    let status = pareas(
+        rt, alloc, &words, &mut input, &mut out, &mut notes, &OpenGate,
+    );
+    Ok(Ended {
+        status,
+        input,
+        out,
+        notes,
+    })
+}
+
+/// Calls the program over memory, and sees that it ends so and has written this.
+pub(crate) fn expect<R: Threads + Abort + Sync>(
+    rt: &R,
+    alloc: Global,
+    call: Call,
+    ends: Ends,
+    (status, out, notes): (Status, &[u8], &[u8]),
+) -> Result<(), AllocError> {
+    let ended = called(rt, alloc, call, ends)?;
+    assert_eq!(rt; ended.status, status);
+    assert_eq!(rt; ended.out.written(), out);
+    assert_eq!(rt; ended.notes.written(), notes);
+    Ok(())
+}
+
+/// The words of a call, its input, its status, the result and the notes.
+type Row = (
+    &'static [&'static str],
+    &'static [u8],
+    Status,
+    &'static [u8],
+    &'static [u8],
+);
+
+/// Sees that the calls of these rows are answered so.
+fn expect_rows<R: Threads + Abort + Sync>(
+    rt: &R,
+    alloc: Global,
+    rows: &[Row],
+) -> Result<(), AllocError> {
+    for &(words, source, status, out, notes) in rows {
+        let call = Call {
+            words,
+            plan: &[],
+            source,
+        };
+        expect(rt, alloc, call, SOUND, (status, out, notes))?;
     }
     Ok(())
 }
 
-#[test]
-fn assembles_listings(rt: HostRuntime) -> Result<(), Fail> {
-    let rows: [(&[u8], Status, &[u8], &[u8]); 4] = [
-        (SEVEN_LISTING.as_bytes(), Status::Done, &SEVEN_FILE, b""),
-        (b"addi x1, x0, 2048", Status::BadAsm, b"", b"asm line 1\n"),
-        (b"jal x1, 3", Status::BadAsm, b"", b"asm line 1\n"),
-        (b"", Status::BadAsm, b"", b"asm empty\n"),
-    ];
-    for (text, status, out, notes) in rows {
-        let words = ["pareas", "asm"];
-        expect(&rt, rt.alloc(), &words, text, &SOUND, (status, out, notes))?;
+/// Options of plans: each number of workers with each number of items that a worker draws at a time.
+const PLANS: &[&[&str]] = &[
+    &["--workers", "1", "--chunk", "1"],
+    &["--workers", "1", "--chunk", "7"],
+    &["--workers", "1", "--chunk", "65536"],
+    &["--workers", "4", "--chunk", "1"],
+    &["--workers", "4", "--chunk", "7"],
+    &["--workers", "4", "--chunk", "65536"],
+    &["--workers", "64", "--chunk", "1"],
+    &["--workers", "64", "--chunk", "7"],
+    &["--workers", "64", "--chunk", "65536"],
+];
+
+/// The words of a call that has a result, its input and the result.
+type ResultRow = (&'static [&'static str], &'static [u8], &'static [u8]);
+
+/// Sees that the calls have their results by this plan.
+fn expect_results<R: Threads + Abort + Sync>(
+    rt: &R,
+    alloc: Global,
+    plan: &'static [&'static str],
+    rows: &[ResultRow],
+) -> Result<(), AllocError> {
+    for &(words, source, out) in rows {
+        let call = Call {
+            words,
+            plan,
+            source,
+        };
+        expect(rt, alloc, call, SOUND, (Status::Done, out, b""))?;
     }
     Ok(())
 }
 
-#[test]
-fn tells_faults(rt: HostRuntime) -> Result<(), Fail> {
-    let rows: [(&[u32], &[u8]); 8] = [
-        (&[0x0020_2283], b"fault misaligned at 0x00010054\n"),
-        (&[0x0000_2283], b"fault load at 0x00010054\n"),
-        (&[0x0000_2023], b"fault store at 0x00010054\n"),
-        (&[0x0000_0000], b"fault unknown at 0x00010054\n"),
-        (&[0x0010_0073], b"fault call at 0x00010054\n"),
-        (&[0x0000_0073], b"fault call at 0x00010054\n"),
-        (&[0x0020_00ef], b"fault misaligned at 0x00010054\n"),
-        (&[0x0000_0067], b"fault fetch at 0x00000000\n"),
-    ];
-    for (code, out) in rows {
-        let file = write(rt.alloc(), code)?;
-        expect(
-            &rt,
-            rt.alloc(),
-            &EMU,
-            &file,
-            &SOUND,
-            (Status::Machine, out, b""),
-        )?;
+/// Sees that the calls have their results by each plan.
+fn expect_for_every_plan<R: Threads + Abort + Sync>(
+    rt: &R,
+    alloc: Global,
+    rows: &[ResultRow],
+) -> Result<(), AllocError> {
+    for &plan in PLANS {
+        expect_results(rt, alloc, plan, rows)?;
     }
     Ok(())
 }
 
+const BUILDS: &[ResultRow] = &[(&["build"], SEVEN, &SEVEN_FILE)];
+
 #[test]
-fn faults_of_the_ends(rt: HostRuntime) -> Result<(), Fail> {
-    let second_write = Ends {
-        read_step: 4096,
-        write_step: 100,
-        failing_reads: &[],
-        failing_writes: &[2],
-    };
-    expect(
-        &rt,
-        rt.alloc(),
-        &BUILD,
-        SEVEN,
-        &second_write,
-        (Status::WriteFault, &SEVEN_FILE[..100], b""),
-    )?;
-    let first_read = Ends {
-        read_step: 4096,
-        write_step: 4096,
-        failing_reads: &[1],
-        failing_writes: &[],
-    };
-    expect(
-        &rt,
-        rt.alloc(),
-        &BUILD,
-        SEVEN,
-        &first_read,
-        (Status::ReadFault, b"", b""),
-    )?;
-    let notes = Ends {
-        read_step: 4096,
-        write_step: 4096,
-        failing_reads: &[],
-        failing_writes: &[1],
-    };
-    expect(
-        &rt,
-        rt.alloc(),
-        &BUILD,
+fn builds_the_same_for_every_plan(rt: HostRuntime) -> Result<(), Fail> {
+    expect_for_every_plan(&rt, rt.alloc(), BUILDS)?;
+    Ok(())
+}
+
+/// A loop, a call and a choice.
+const COUNTING: &[u8] =
+    b"fn f(var a: int): int { while a < 2 { a = a + 1; } return a; } fn main(): int { if f[1] == 2 { return 1; } else { return 0; } }";
+
+/// The words of `COUNTING`: three of the stub, 25 of `f` and 27 of `main`.
+const COUNTING_WORDS: &[u32] = &[
+    0x070000EF, 0x05D00893, 0x00000073, 0xFF010113, 0x00012023, 0x00112623, 0x00912423, 0x01212223,
+    0x00A12023, 0x00012483, 0x00200913, 0x0124A4B3, 0x00049463, 0x0180006F, 0x00012483, 0x00100913,
+    0x012484B3, 0x00912023, 0xFDDFF06F, 0x00012483, 0x00048513, 0x0080006F, 0x00000513, 0x00C12083,
+    0x00812483, 0x00412903, 0x01010113, 0x00008067, 0xFF010113, 0x00012023, 0x00112623, 0x00912423,
+    0x01212223, 0x00100493, 0x00048513, 0xF81FF0EF, 0x00050493, 0x00200913, 0x412484B3, 0x0014B493,
+    0x00049463, 0x0140006F, 0x00100493, 0x00048513, 0x0180006F, 0x0100006F, 0x00000493, 0x00048513,
+    0x0080006F, 0x00000513, 0x00C12083, 0x00812483, 0x00412903, 0x01010113, 0x00008067,
+];
+
+#[test]
+fn builds_the_words_for_every_plan(rt: HostRuntime) -> Result<(), Fail> {
+    let file = write(rt.alloc(), COUNTING_WORDS)?;
+    for &plan in PLANS {
+        let call = Call {
+            words: &["build"],
+            plan,
+            source: COUNTING,
+        };
+        expect(&rt, rt.alloc(), call, SOUND, (Status::Done, &file, b""))?;
+    }
+    Ok(())
+}
+
+/// Programs of one expression or some statements.
+const PROGRAMS: &[ResultRow] = &[
+    (&["run"], b"fn main(): int { return 8-3-2; }", b"exit 3\n"),
+    (
+        &["run"],
+        b"fn main(): int { return (-2147483647-1)/-1; }",
+        b"exit -2147483648\n",
+    ),
+    (&["run"], b"fn main(): int { return 1/0; }", b"exit -1\n"),
+    (&["run"], b"fn main(): int { return 5%0; }", b"exit 5\n"),
+    (&["run"], b"fn main(): int { return 1<<33; }", b"exit 2\n"),
+    (
+        &["run"],
+        b"fn main(): int { var x: int = 1; return x + (x = 3); }",
+        b"exit 4\n",
+    ),
+    (
+        &["run"],
+        b"fn le(): bool { return 1<=2 == true; } fn main(): int { if le[] { return 1; } return 0; }",
+        b"exit 1\n",
+    ),
+    (
+        &["run"],
+        b"fn f(var a: int): int { return a; } fn main(): int { return 1+(2+(3+(4+(5+(6+(7+(8+(9+(10+(11+(12+(13+f[14])))))))))))); }",
+        b"exit 105\n",
+    ),
+];
+
+#[test]
+fn runs_programs_of_the_whole_language(rt: HostRuntime) -> Result<(), Fail> {
+    expect_results(&rt, rt.alloc(), &[], PROGRAMS)?;
+    Ok(())
+}
+
+#[test]
+fn runs_the_same_for_every_plan(rt: HostRuntime) -> Result<(), Fail> {
+    expect_for_every_plan(&rt, rt.alloc(), PROGRAMS)?;
+    Ok(())
+}
+
+const DRILLS: &[ResultRow] = &[
+    (
+        &["drill", "--seed", "1", "--functions", "1"],
         b"",
-        &notes,
-        (Status::WriteFault, b"", b""),
-    )?;
-    Ok(())
-}
+        b"source 144\ntokens 61\nimage 296\nexit 650\n",
+    ),
+    (
+        &["drill", "--seed", "1", "--functions", "2"],
+        b"",
+        b"source 261\ntokens 111\nimage 448\nexit 30379224\n",
+    ),
+];
 
 #[test]
 fn drills_the_same_for_every_plan(rt: HostRuntime) -> Result<(), Fail> {
-    let rows: [(&str, &[u8]); 2] = [
-        ("1", b"source 144\ntokens 61\nimage 296\nexit 650\n"),
-        ("2", b"source 261\ntokens 111\nimage 448\nexit 30379224\n"),
-    ];
-    for workers in ["1", "4", "64"] {
-        for chunk in ["1", "7", "65536"] {
-            for (functions, out) in rows {
-                let words = [
-                    "pareas",
-                    "drill",
-                    "--seed",
-                    "1",
-                    "--functions",
-                    functions,
-                    "--workers",
-                    workers,
-                    "--chunk",
-                    chunk,
-                ];
-                expect(
-                    &rt,
-                    rt.alloc(),
-                    &words,
-                    b"",
-                    &SOUND,
-                    (Status::Done, out, b""),
-                )?;
-            }
-        }
-    }
+    expect_for_every_plan(&rt, rt.alloc(), DRILLS)?;
+    Ok(())
+}
+
+/// Sources with white space, leading zeros and a comment, and sources that are refused with their lines.
+const SOURCES: &[Row] = &[
+    (
+        &["build"],
+        b"fn main(): int { return 0000000007; }",
+        Status::Done,
+        &SEVEN_FILE,
+        b"",
+    ),
+    (
+        &["build"],
+        b"\tfn\r\nmain ( )\n:int{return\t7;}\r\n",
+        Status::Done,
+        &SEVEN_FILE,
+        b"",
+    ),
+    (
+        &["build"],
+        b"fn main(): int { return 7; } // end",
+        Status::Done,
+        &SEVEN_FILE,
+        b"",
+    ),
+    (&["build"], b"", Status::Refused, b"", b"error 405 at 1:1\n"),
+    (
+        &["build"],
+        b"fn main(): int { return 2147483648; }",
+        Status::Refused,
+        b"",
+        b"error 102 at 1:25\n",
+    ),
+    (
+        &["build"],
+        b"fn main(): int {\nreturn true;\n    $\n}",
+        Status::Refused,
+        b"",
+        b"error 101 at 3:5\n",
+    ),
+    (
+        &["build"],
+        b"fn main(): int {\nreturn true;\n\n}",
+        Status::Refused,
+        b"",
+        b"error 505 at 2:1\n",
+    ),
+    (&["run"], b"", Status::Refused, b"", b"error 405 at 1:1\n"),
+];
+
+#[test]
+fn builds_and_refuses_sources(rt: HostRuntime) -> Result<(), Fail> {
+    expect_rows(&rt, rt.alloc(), SOURCES)?;
     Ok(())
 }
 
 #[test]
+fn sources_have_a_limit(rt: HostRuntime) -> Result<(), Fail> {
+    let spaces = vec![in rt.alloc(); b' '; 1_048_577]?;
+    let call = Call {
+        words: &["build"],
+        plan: &[],
+        source: &spaces,
+    };
+    let limit: (Status, &[u8], &[u8]) = (Status::Limit, b"", b"limit 601 at 1:1048577\n");
+    expect(&rt, rt.alloc(), call, SOUND, limit)?;
+    Ok(())
+}
+
+/// Programs that get so many steps: some exit, some don't.
+const STEPS: &[Row] = &[
+    (
+        &["run", "--steps", "14"],
+        SEVEN,
+        Status::Done,
+        b"exit 7\n",
+        b"",
+    ),
+    (
+        &["run", "--steps", "13"],
+        SEVEN,
+        Status::Running,
+        b"running\n",
+        b"",
+    ),
+    (
+        &["run", "--steps", "0"],
+        SEVEN,
+        Status::Running,
+        b"running\n",
+        b"",
+    ),
+    (
+        &["run", "--steps", "0"],
+        ENDLESS,
+        Status::Running,
+        b"running\n",
+        b"",
+    ),
+    (
+        &["run", "--steps", "1"],
+        ENDLESS,
+        Status::Running,
+        b"running\n",
+        b"",
+    ),
+    (
+        &["run", "--steps", "1000"],
+        ENDLESS,
+        Status::Running,
+        b"running\n",
+        b"",
+    ),
+    (
+        &["run", "--steps", "327682"],
+        DEEP,
+        Status::Running,
+        b"running\n",
+        b"",
+    ),
+    (
+        &["run", "--steps", "327683"],
+        DEEP,
+        Status::Machine,
+        b"fault store at 0x00010064\n",
+        b"",
+    ),
+];
+
+#[test]
+fn runs_for_so_many_steps(rt: HostRuntime) -> Result<(), Fail> {
+    expect_rows(&rt, rt.alloc(), STEPS)?;
+    Ok(())
+}
+
+const LISTINGS: &[Row] = &[
+    (&["asm"], SEVEN_LISTING, Status::Done, &SEVEN_FILE, b""),
+    (
+        &["asm"],
+        b"addi x1, x0, 2048",
+        Status::BadAsm,
+        b"",
+        b"asm line 1\n",
+    ),
+    (&["asm"], b"jal x1, 3", Status::BadAsm, b"", b"asm line 1\n"),
+    (&["asm"], b"", Status::BadAsm, b"", b"asm empty\n"),
+];
+
+#[test]
+fn assembles_listings(rt: HostRuntime) -> Result<(), Fail> {
+    expect_rows(&rt, rt.alloc(), LISTINGS)?;
+    Ok(())
+}
+
+/// The least seed and the greatest.
+const SEEDS: &[Row] = &[
+    (
+        &["drill", "--seed", "0", "--functions", "3"],
+        b"",
+        Status::Done,
+        b"source 380\ntokens 161\nimage 600\nexit -1002442593\n",
+        b"",
+    ),
+    (
+        &["drill", "--seed", "4294967295", "--functions", "3"],
+        b"",
+        Status::Done,
+        b"source 379\ntokens 161\nimage 600\nexit -2027067966\n",
+        b"",
+    ),
+];
+
+#[test]
 fn drills_by_seeds(rt: HostRuntime) -> Result<(), Fail> {
-    let rows: [(&str, &[u8]); 2] = [
-        (
-            "0",
-            b"source 380\ntokens 161\nimage 600\nexit -1002442593\n",
-        ),
-        (
-            "4294967295",
-            b"source 379\ntokens 161\nimage 600\nexit -2027067966\n",
-        ),
-    ];
-    for (seed, out) in rows {
-        let words = ["pareas", "drill", "--seed", seed, "--functions", "3"];
+    expect_rows(&rt, rt.alloc(), SEEDS)?;
+    Ok(())
+}
+
+/// A command, how many bytes of `SEVEN_FILE` it reads, its status, the result and the notes.
+const IMAGES: &[(&str, usize, Status, &[u8], &[u8])] = &[
+    ("emu", 144, Status::Done, b"exit 7\n", b""),
+    ("emu", 143, Status::BadImage, b"", b"image Segment 0\n"),
+    ("emu", 51, Status::BadImage, b"", b"image Short\n"),
+    ("dump", 144, Status::Done, SEVEN_LISTING, b""),
+    ("dump", 143, Status::BadImage, b"", b"image Segment 0\n"),
+    ("dump", 51, Status::BadImage, b"", b"image Short\n"),
+];
+
+#[test]
+fn emulates_and_lists_images(rt: HostRuntime) -> Result<(), Fail> {
+    for &(command, count, status, out, notes) in IMAGES {
+        let call = Call {
+            words: &[command],
+            plan: &[],
+            source: &SEVEN_FILE[..count.min(144)],
+        };
+        expect(&rt, rt.alloc(), call, SOUND, (status, out, notes))?;
+    }
+    Ok(())
+}
+
+/// Runs a file on the emulator, and sees that it ends so and has written this.
+fn expect_emulated<R: Threads + Abort + Sync>(
+    rt: &R,
+    alloc: Global,
+    file: &[u8],
+    answer: (Status, &[u8], &[u8]),
+) -> Result<(), AllocError> {
+    let call = Call {
+        words: &["emu"],
+        plan: &[],
+        source: file,
+    };
+    expect(rt, alloc, call, SOUND, answer)
+}
+
+#[test]
+fn refuses_images_of_other_machines(rt: HostRuntime) -> Result<(), Fail> {
+    let mut other_machine = SEVEN_FILE;
+    other_machine[18] = 0;
+    let refusal: (Status, &[u8], &[u8]) = (Status::BadImage, b"", b"image Machine\n");
+    expect_emulated(&rt, rt.alloc(), &other_machine, refusal)?;
+    Ok(())
+}
+
+/// The one word of an image, and how it faults.
+const FAULTS: &[(u32, &[u8])] = &[
+    (0x0020_2283, b"fault misaligned at 0x00010054\n"),
+    (0x0000_2283, b"fault load at 0x00010054\n"),
+    (0x0000_2023, b"fault store at 0x00010054\n"),
+    (0x0000_0000, b"fault unknown at 0x00010054\n"),
+    (0x0010_0073, b"fault call at 0x00010054\n"),
+    (0x0000_0073, b"fault call at 0x00010054\n"),
+    (0x0020_00ef, b"fault misaligned at 0x00010054\n"),
+    (0x0000_0067, b"fault fetch at 0x00000000\n"),
+];
+
+#[test]
+fn tells_faults(rt: HostRuntime) -> Result<(), Fail> {
+    for &(word, out) in FAULTS {
+        let file = write(rt.alloc(), &[word])?;
+        expect_emulated(&rt, rt.alloc(), &file, (Status::Machine, out, b""))?;
+    }
+    Ok(())
+}
+
+/// The bytes of one read or write.
+const CUTS: &[usize] = &[1, 7, 4096];
+
+#[test]
+fn builds_however_bytes_are_cut(rt: HostRuntime) -> Result<(), Fail> {
+    let call = Call {
+        words: &["build"],
+        plan: &[],
+        source: SEVEN,
+    };
+    for &step in CUTS {
+        let ends = Ends {
+            step,
+            failing_reads: &[],
+            failing_writes: &[],
+        };
         expect(
             &rt,
             rt.alloc(),
-            &words,
-            b"",
-            &SOUND,
-            (Status::Done, out, b""),
+            call,
+            ends,
+            (Status::Done, &SEVEN_FILE, b""),
         )?;
     }
     Ok(())
 }
 
+const FIRST_READ_FAILS: Ends = Ends {
+    step: 4096,
+    failing_reads: &[1],
+    failing_writes: &[],
+};
+
+const FIRST_WRITE_FAILS: Ends = Ends {
+    step: 4096,
+    failing_reads: &[],
+    failing_writes: &[1],
+};
+
+const SECOND_WRITE_FAILS: Ends = Ends {
+    step: 100,
+    failing_reads: &[],
+    failing_writes: &[2],
+};
+
+/// Calls of which a read or a write fails: the words, the input, the ends, the status and the result. A drill reads nothing.
+const ENDS_THAT_FAIL: &[(&[&str], &[u8], Ends, Status, &[u8])] = &[
+    (&["build"], SEVEN, FIRST_READ_FAILS, Status::ReadFault, b""),
+    (&["build"], b"", FIRST_WRITE_FAILS, Status::WriteFault, b""),
+    (
+        &["drill", "--seed", "1", "--functions", "1"],
+        SEVEN,
+        FIRST_READ_FAILS,
+        Status::Done,
+        b"source 144\ntokens 61\nimage 296\nexit 650\n",
+    ),
+];
+
 #[test]
-fn drills_without_reading(rt: HostRuntime) -> Result<(), Fail> {
-    let drill = ["pareas", "drill", "--seed", "1", "--functions", "1"];
-    let sizes_and_exit = b"source 144\ntokens 61\nimage 296\nexit 650\n";
-    let failing = Ends {
-        read_step: 4096,
-        write_step: 4096,
-        failing_reads: &[1],
-        failing_writes: &[],
+fn faults_of_the_ends(rt: HostRuntime) -> Result<(), Fail> {
+    for &(words, source, ends, status, out) in ENDS_THAT_FAIL {
+        let call = Call {
+            words,
+            plan: &[],
+            source,
+        };
+        expect(&rt, rt.alloc(), call, ends, (status, out, b""))?;
+    }
+    Ok(())
+}
+
+#[test]
+fn keeps_what_was_written_before_a_fault(rt: HostRuntime) -> Result<(), Fail> {
+    let call = Call {
+        words: &["build"],
+        plan: &[],
+        source: SEVEN,
     };
-    let done: (Status, &[u8], &[u8]) = (Status::Done, sizes_and_exit, b"");
-    expect(&rt, rt.alloc(), &drill, SEVEN, &failing, done)?;
-    let words = words_of(rt.alloc(), &drill)?;
-    let mut input = MemoryIn::new(SEVEN.to_vec(rt.alloc())?, 4096, Vec::new(rt.alloc()));
-    let mut out = MemoryOut::new(rt.alloc(), ROOM, 4096, Vec::new(rt.alloc()))?;
-    let mut notes = MemoryOut::new(rt.alloc(), ROOM, 4096, Vec::new(rt.alloc()))?;
-    let ended = pareas(
-        &rt,
-        rt.alloc(),
-        &words,
-        &mut input,
-        &mut out,
-        &mut notes,
-        &OpenGate,
-    );
-    assert_eq!(rt; ended, Status::Done);
-    expect_unread(&rt, &mut input, SEVEN);
+    let fault: (Status, &[u8], &[u8]) = (Status::WriteFault, &SEVEN_FILE[..100], b"");
+    expect(&rt, rt.alloc(), call, SECOND_WRITE_FAILS, fault)?;
+    Ok(())
+}
+
+/// Sees that all these bytes are left on the input.
+fn expect_unread<R: Abort>(rt: &R, input: &mut MemoryIn, bytes: &[u8]) {
+    let mut buffer = [0; 64];
+    let count = input.read(&mut buffer).unwrap_or(0);
+    assert_eq!(rt; &buffer[..count.min(64)], bytes);
+}
+
+/// Calls that read nothing: the words, the status, the result, and how the notes begin. Words are refused so, and a drill has no input.
+const WITHOUT_INPUT: &[(&[&str], Status, &[u8], &[u8])] = &[
+    (
+        &[],
+        Status::Usage,
+        b"",
+        b"error: 'pareas' requires a subcommand",
+    ),
+    (
+        &["drill", "--seed", "1", "--functions", "0"],
+        Status::Usage,
+        b"",
+        b"error: invalid value '0'",
+    ),
+    (
+        &["drill", "--functions", "1"],
+        Status::Usage,
+        b"",
+        b"error: ",
+    ),
+    (
+        &["bild"],
+        Status::Usage,
+        b"",
+        b"error: unrecognized subcommand 'bild'",
+    ),
+    (
+        &["build", "--workers", "65"],
+        Status::Usage,
+        b"",
+        b"error: invalid value '65'",
+    ),
+    (
+        &["build", "--chunk", "0"],
+        Status::Usage,
+        b"",
+        b"error: invalid value '0'",
+    ),
+    (
+        &["run", "--steps"],
+        Status::Usage,
+        b"",
+        b"error: a value is required",
+    ),
+    (&["--help"], Status::Usage, b"", b"A parallel compiler"),
+    (
+        &["help", "drill"],
+        Status::Usage,
+        b"",
+        b"Compiles and runs a program made from a seed, as in `pareas drill --seed 1 --functions 2`",
+    ),
+    (&["--version"], Status::Usage, b"", b"pareas 0.1.0\n"),
+    (
+        &["drill", "--seed", "1", "--functions", "1"],
+        Status::Done,
+        b"source 144\ntokens 61\nimage 296\nexit 650\n",
+        b"",
+    ),
+];
+
+/// Sees that a call ends so, has written this and begun its notes so, and leaves its input.
+fn expect_without_input<R: Threads + Abort + Sync>(
+    rt: &R,
+    alloc: Global,
+    words: &[&str],
+    (status, out, beginning): (Status, &[u8], &[u8]),
+) -> Result<(), AllocError> {
+    let call = Call {
+        words,
+        plan: &[],
+        source: SEVEN,
+    };
+    let mut ended = called(rt, alloc, call, SOUND)?;
+    assert_eq!(rt; ended.status, status);
+    assert_eq!(rt; ended.out.written(), out);
+    assert!(rt; ended.notes.written().starts_with(beginning));
+    expect_unread(rt, &mut ended.input, SEVEN);
+    Ok(())
+}
+
+#[test]
+fn leaves_the_input(rt: HostRuntime) -> Result<(), Fail> {
+    for &(words, status, out, beginning) in WITHOUT_INPUT {
+        expect_without_input(&rt, rt.alloc(), words, (status, out, beginning))?;
+    }
     Ok(())
 }

@@ -47,113 +47,119 @@ fn refused_with(alloc: Global, line: &str) -> Result<Option<String>, AllocError>
     }
 }
 
+/// Command lines, and what they ask for: nothing where they are refused.
+const LINES: &[(&str, &str)] = &[
+    ("pareas build", "Build 4 1024"),
+    ("pareas build --workers 64 --chunk=65536", "Build 64 65536"),
+    ("pareas run", "Run { steps: 1000000 } 4 1024"),
+    (
+        "pareas run --steps 14 --workers 1",
+        "Run { steps: 14 } 1 1024",
+    ),
+    (
+        "pareas emu --steps 1000000000",
+        "Emu { steps: 1000000000 } 1 1",
+    ),
+    ("pareas emu --steps +007", "Emu { steps: 7 } 1 1"),
+    ("pareas dump", "Dump 1 1"),
+    ("pareas asm", "Asm 1 1"),
+    ("pareas table", "Table { word: None } 1 1"),
+    (
+        "pareas drill --seed 1 --functions 2",
+        "Drill { seed: 1, functions: 2 } 4 1024",
+    ),
+    (
+        "pareas drill --functions 4096 --chunk 7 --seed 4294967295 --workers 64",
+        "Drill { seed: 4294967295, functions: 4096 } 64 7",
+    ),
+    ("pareas drill --seed 1 --functions 0", ""),
+    ("pareas drill --seed 1 --functions 4097", ""),
+    ("pareas drill --seed 4294967296 --functions 1", ""),
+    ("pareas drill --functions 1", ""),
+    ("pareas drill --seed 1", ""),
+    ("pareas drill --seed 1 --functions 1 --steps 1", ""),
+    ("pareas dump --steps 1", ""),
+    ("pareas dump --chunk 1", ""),
+    ("pareas dump seven.elf", ""),
+    ("pareas asm --steps 1", ""),
+    ("pareas asm --workers 1", ""),
+    ("pareas asm dump", ""),
+    ("pareas table --workers 1", ""),
+    ("pareas table --steps 1", ""),
+    ("pareas table --word", ""),
+    ("pareas table --word a b", ""),
+    ("pareas table --word a --word a", ""),
+    ("pareas table --word -a", ""),
+    ("pareas build --word a", ""),
+    ("pareas asm --word a", ""),
+    ("pareas --word a table", ""),
+    ("pareas", ""),
+    ("pareas bild", ""),
+    ("pareas build run", ""),
+    ("pareas build --workers 0", ""),
+    ("pareas build --workers 65", ""),
+    ("pareas build --chunk 65537", ""),
+    ("pareas build --chunk x", ""),
+    ("pareas build --steps 3", ""),
+    ("pareas emu --workers 1", ""),
+    ("pareas run --steps", ""),
+    ("pareas run --steps 1 --steps 1", ""),
+    ("pareas run --steps 1000000001", ""),
+    ("pareas run --steps -1", ""),
+    ("pareas --help", ""),
+    ("pareas help run", ""),
+    ("pareas --version", ""),
+];
+
 #[test]
 fn words_ask_for_commands(rt: HostRuntime) -> Result<(), Fail> {
-    let rows = [
-        ("pareas build", "Build 4 1024"),
-        ("pareas build --workers 64 --chunk=65536", "Build 64 65536"),
-        ("pareas run", "Run { steps: 1000000 } 4 1024"),
-        (
-            "pareas run --steps 14 --workers 1",
-            "Run { steps: 14 } 1 1024",
-        ),
-        (
-            "pareas emu --steps 1000000000",
-            "Emu { steps: 1000000000 } 1 1",
-        ),
-        ("pareas emu --steps +007", "Emu { steps: 7 } 1 1"),
-        ("pareas dump", "Dump 1 1"),
-        ("pareas asm", "Asm 1 1"),
-        ("pareas table", "Table { word: None } 1 1"),
-        (
-            "pareas drill --seed 1 --functions 2",
-            "Drill { seed: 1, functions: 2 } 4 1024",
-        ),
-        (
-            "pareas drill --functions 4096 --chunk 7 --seed 4294967295 --workers 64",
-            "Drill { seed: 4294967295, functions: 4096 } 64 7",
-        ),
-        ("pareas drill --seed 1 --functions 0", ""),
-        ("pareas drill --seed 1 --functions 4097", ""),
-        ("pareas drill --seed 4294967296 --functions 1", ""),
-        ("pareas drill --functions 1", ""),
-        ("pareas drill --seed 1", ""),
-        ("pareas drill --seed 1 --functions 1 --steps 1", ""),
-        ("pareas dump --steps 1", ""),
-        ("pareas dump --chunk 1", ""),
-        ("pareas dump seven.elf", ""),
-        ("pareas asm --steps 1", ""),
-        ("pareas asm --workers 1", ""),
-        ("pareas asm dump", ""),
-        ("pareas table --workers 1", ""),
-        ("pareas table --steps 1", ""),
-        ("pareas table --word", ""),
-        ("pareas table --word a b", ""),
-        ("pareas table --word a --word a", ""),
-        ("pareas table --word -a", ""),
-        ("pareas build --word a", ""),
-        ("pareas asm --word a", ""),
-        ("pareas --word a table", ""),
-        ("pareas", ""),
-        ("pareas bild", ""),
-        ("pareas build run", ""),
-        ("pareas build --workers 0", ""),
-        ("pareas build --workers 65", ""),
-        ("pareas build --chunk 65537", ""),
-        ("pareas build --chunk x", ""),
-        ("pareas build --steps 3", ""),
-        ("pareas emu --workers 1", ""),
-        ("pareas run --steps", ""),
-        ("pareas run --steps 1 --steps 1", ""),
-        ("pareas run --steps 1000000001", ""),
-        ("pareas run --steps -1", ""),
-        ("pareas --help", ""),
-        ("pareas help run", ""),
-        ("pareas --version", ""),
-    ];
-    for (line, wanted) in rows {
+    for &(line, wanted) in LINES {
         let found = asked(rt.alloc(), line)?;
         assert!(rt; found.as_str() == wanted, "{line}: {found}");
     }
     Ok(())
 }
 
+/// Words that ask for tables, and the spelling of the word to be parsed.
+const SPELLINGS: &[(&[&str], &str)] = &[
+    (&["pareas", "table", "--word", "a"], "a"),
+    (&["pareas", "table", "--word", "a b"], "a b"),
+    (&["pareas", "table", "--word=a  b "], "a  b "),
+    (&["pareas", "table", "--word", ""], ""),
+    (&["pareas", "table", "--word="], ""),
+    (&["pareas", "table", "--word=-a"], "-a"),
+];
+
 #[test]
 fn tables_are_asked_for_with_a_word(rt: HostRuntime) -> Result<(), Fail> {
-    let rows: [(&[&str], &str); 6] = [
-        (&["pareas", "table", "--word", "a"], "a"),
-        (&["pareas", "table", "--word", "a b"], "a b"),
-        (&["pareas", "table", "--word=a  b "], "a  b "),
-        (&["pareas", "table", "--word", ""], ""),
-        (&["pareas", "table", "--word="], ""),
-        (&["pareas", "table", "--word=-a"], "-a"),
-    ];
-    for (words, spelling) in rows {
+    for &(words, spelling) in SPELLINGS {
         let is_asked = is_asked_to_parse(rt.alloc(), words, spelling)?;
         assert!(rt; is_asked, "{spelling}");
     }
     Ok(())
 }
 
+/// Command lines that are refused, and the text of it.
+const REFUSALS: &[(&str, &str)] = &[
+    ("pareas --help", PAREAS_HELP),
+    ("pareas help", PAREAS_HELP),
+    ("pareas help build", BUILD_HELP),
+    ("pareas build --help", BUILD_HELP),
+    ("pareas help run", RUN_HELP),
+    ("pareas help emu", EMU_HELP),
+    ("pareas help dump", DUMP_HELP),
+    ("pareas help asm", ASM_HELP),
+    ("pareas help table", TABLE_HELP),
+    ("pareas help drill", DRILL_HELP),
+    ("pareas --version", "pareas 0.1.0\n"),
+    ("pareas", NO_COMMAND),
+    ("pareas bild", UNKNOWN_COMMAND),
+    ("pareas asm --steps 1", UNKNOWN_OPTION),
+];
+
 #[test]
 fn refusals_say_why(rt: HostRuntime) -> Result<(), Fail> {
-    let rows = [
-        ("pareas --help", PAREAS_HELP),
-        ("pareas help", PAREAS_HELP),
-        ("pareas help build", BUILD_HELP),
-        ("pareas build --help", BUILD_HELP),
-        ("pareas help run", RUN_HELP),
-        ("pareas help emu", EMU_HELP),
-        ("pareas help dump", DUMP_HELP),
-        ("pareas help asm", ASM_HELP),
-        ("pareas help table", TABLE_HELP),
-        ("pareas help drill", DRILL_HELP),
-        ("pareas --version", "pareas 0.1.0\n"),
-        ("pareas", NO_COMMAND),
-        ("pareas bild", UNKNOWN_COMMAND),
-        ("pareas asm --steps 1", UNKNOWN_OPTION),
-    ];
-    for (line, wanted) in rows {
+    for &(line, wanted) in REFUSALS {
         let text = refused_with(rt.alloc(), line)?.unwrap_or(String::new(rt.alloc()));
         assert!(rt; text.as_str() == wanted, "{line}: {text}");
     }

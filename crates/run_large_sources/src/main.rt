@@ -4,9 +4,177 @@
 mod sources;
 
 use plan_trials::{call, is_one_answer};
+use sources::Source;
 use std::alloc::Global;
 use std::io::{self, Write};
 use std::thread::Threads;
+
+/// What a source is tried by.
+#[derive(Clone, Copy)]
+enum Trial {
+    /// It is compiled; how many bytes its image has, or why there is none.
+    Build,
+    /// It is compiled and run; how it ends, or why it has no image.
+    Run,
+    /// It is compiled under nine plans; whether all come to one answer.
+    Compare,
+}
+
+/// A source, what it shows, and what it is tried by.
+type Row = (&'static str, Source, &'static [Trial]);
+
+const SOURCES: &[Row] = &[
+    // at the limits
+    (
+        "a frame of 2,032 bytes",
+        Source::Variables(506),
+        &[Trial::Run],
+    ),
+    ("one variable more", Source::Variables(507), &[Trial::Run]),
+    (
+        "code of 1,048,576 bytes",
+        Source::Zeros(262_132),
+        &[Trial::Build, Trial::Run],
+    ),
+    (
+        "one word more",
+        Source::Zeros(262_133),
+        &[Trial::Build, Trial::Compare],
+    ),
+    (
+        "a source of 1,048,576 bytes",
+        Source::Spaces(1_048_576),
+        &[Trial::Build],
+    ),
+    (
+        "one byte more",
+        Source::Spaces(1_048_577),
+        &[Trial::Build, Trial::Compare],
+    ),
+    // long ones
+    (
+        "a number of 900,001 digits",
+        Source::Around {
+            before: b"0",
+            count: 900_000,
+            middle: b"7",
+            behind: b"",
+        },
+        &[Trial::Run],
+    ),
+    (
+        "a name of 1,000 bytes, 880 times in one line",
+        Source::LongNames {
+            length: 1000,
+            count: 439,
+        },
+        &[Trial::Run],
+    ),
+    (
+        "a comment of 900,000 bytes",
+        Source::Comment(900_000),
+        &[Trial::Run],
+    ),
+    ("20,000 functions", Source::Names(20_000), &[Trial::Run]),
+    (
+        "10,000 functions, each calling the one before",
+        Source::CallsInARow(10_000),
+        &[Trial::Run],
+    ),
+    (
+        "a call with 100,000 arguments",
+        Source::Arguments(100_000),
+        &[Trial::Run],
+    ),
+    // deep ones
+    (
+        "100,000 parentheses",
+        Source::Around {
+            before: b"(",
+            count: 100_000,
+            middle: b"7",
+            behind: b")",
+        },
+        &[Trial::Run],
+    ),
+    (
+        "100,000 that stay open",
+        Source::Around {
+            before: b"(",
+            count: 100_000,
+            middle: b"7",
+            behind: b"",
+        },
+        &[Trial::Run],
+    ),
+    (
+        "100,000 minus signs",
+        Source::Around {
+            before: b"-",
+            count: 100_000,
+            middle: b"7",
+            behind: b"",
+        },
+        &[Trial::Run],
+    ),
+    (
+        "20,000 chained assignments",
+        Source::Around {
+            before: b"x = ",
+            count: 20_000,
+            middle: b"7",
+            behind: b"",
+        },
+        &[Trial::Run],
+    ),
+    (
+        "10,000 calls in calls",
+        Source::Around {
+            before: b"f[",
+            count: 10_000,
+            middle: b"7",
+            behind: b"]",
+        },
+        &[Trial::Run],
+    ),
+    (
+        "100,000 sums to the right",
+        Source::Around {
+            before: b"1+(",
+            count: 100_000,
+            middle: b"7",
+            behind: b")",
+        },
+        &[Trial::Run],
+    ),
+    (
+        "100,000 blocks",
+        Source::Blocks {
+            before: b"{",
+            count: 100_000,
+            behind: b"}",
+        },
+        &[Trial::Run],
+    ),
+    (
+        "10,000 ifs",
+        Source::Blocks {
+            before: b"if x == 1 {",
+            count: 10_000,
+            behind: b"}",
+        },
+        &[Trial::Run],
+    ),
+    (
+        "a variable declared anew in 400 blocks",
+        Source::Blocks {
+            before: b"{ var x: int = x + 1; y = x;",
+            count: 400,
+            behind: b"}",
+        },
+        &[Trial::Run],
+    ),
+];
 
 /// Compiles the source, and prints how many bytes its image has, or why there is none.
 fn build<R: Threads + Print + Sync>(rt: &R, alloc: Global, source: &[u8]) -> io::Result<()> {
@@ -30,11 +198,6 @@ fn show<R: Threads + Print + Sync>(
     io::writer(rt).write_all(written.notes())
 }
 
-/// Compiles and runs the source, and prints how it ends, or why it has no image.
-fn run<R: Threads + Print + Sync>(rt: &R, alloc: Global, source: Vec<u8>) -> io::Result<()> {
-    show(rt, alloc, &["pareas", "run"], &source)
-}
-
 /// Prints whether a build of the source comes to one answer under nine plans.
 fn compare<R: Threads + Print + Sync>(rt: &R, alloc: Global, source: &[u8]) -> io::Result<()> {
     if is_one_answer(rt, alloc, source)? {
@@ -44,94 +207,35 @@ fn compare<R: Threads + Print + Sync>(rt: &R, alloc: Global, source: &[u8]) -> i
     }
 }
 
-fn at_the_limits<R: Threads + Print + Sync>(rt: &R, alloc: Global) -> io::Result<()> {
-    print!(rt; "a frame of 2,032 bytes: ")?;
-    run(rt, alloc, sources::variables(alloc, 506)?)?;
-    print!(rt; "one variable more: ")?;
-    run(rt, alloc, sources::variables(alloc, 507)?)?;
-    print!(rt; "code of 1,048,576 bytes: ")?;
-    let most_code = sources::zeros(alloc, 262_132)?;
-    build(rt, alloc, &most_code)?;
-    run(rt, alloc, most_code)?;
-    print!(rt; "one word more: ")?;
-    let more_code = sources::zeros(alloc, 262_133)?;
-    build(rt, alloc, &more_code)?;
-    compare(rt, alloc, &more_code)?;
-    print!(rt; "a source of 1,048,576 bytes: ")?;
-    let most_source = sources::spaces(alloc, 1_048_576)?;
-    build(rt, alloc, &most_source)?;
-    print!(rt; "one byte more: ")?;
-    let more_source = sources::spaces(alloc, 1_048_577)?;
-    build(rt, alloc, &more_source)?;
-    compare(rt, alloc, &more_source)
+/// Tries the source, and prints what that comes to.
+fn attempt<R: Threads + Print + Sync>(
+    rt: &R,
+    alloc: Global,
+    trial: Trial,
+    source: &[u8],
+) -> io::Result<()> {
+    match trial {
+        Trial::Build => build(rt, alloc, source),
+        Trial::Run => show(rt, alloc, &["pareas", "run"], source),
+        Trial::Compare => compare(rt, alloc, source),
+    }
 }
 
-fn long_ones<R: Threads + Print + Sync>(rt: &R, alloc: Global) -> io::Result<()> {
-    print!(rt; "a number of 900,001 digits: ")?;
-    run(rt, alloc, sources::around(alloc, b"0", 900_000, b"7", b"")?)?;
-    print!(rt; "a name of 1,000 bytes, 880 times in one line: ")?;
-    run(rt, alloc, sources::long_names(alloc, 1000, 439)?)?;
-    print!(rt; "a comment of 900,000 bytes: ")?;
-    run(rt, alloc, sources::comment(alloc, 900_000)?)?;
-    print!(rt; "20,000 functions: ")?;
-    run(rt, alloc, sources::names(alloc, 20_000)?)?;
-    print!(rt; "10,000 functions, each calling the one before: ")?;
-    run(rt, alloc, sources::calls_in_a_row(alloc, 10_000)?)?;
-    print!(rt; "a call with 100,000 arguments: ")?;
-    run(rt, alloc, sources::arguments(alloc, 100_000)?)?;
-    Ok(())
-}
-
-fn deep_ones<R: Threads + Print + Sync>(rt: &R, alloc: Global) -> io::Result<()> {
-    print!(rt; "100,000 parentheses: ")?;
-    run(
-        rt,
-        alloc,
-        sources::around(alloc, b"(", 100_000, b"7", b")")?,
-    )?;
-    print!(rt; "100,000 that stay open: ")?;
-    run(rt, alloc, sources::around(alloc, b"(", 100_000, b"7", b"")?)?;
-    print!(rt; "100,000 minus signs: ")?;
-    run(rt, alloc, sources::around(alloc, b"-", 100_000, b"7", b"")?)?;
-    print!(rt; "20,000 chained assignments: ")?;
-    run(
-        rt,
-        alloc,
-        sources::around(alloc, b"x = ", 20_000, b"7", b"")?,
-    )?;
-    print!(rt; "10,000 calls in calls: ")?;
-    run(
-        rt,
-        alloc,
-        sources::around(alloc, b"f[", 10_000, b"7", b"]")?,
-    )?;
-    print!(rt; "100,000 sums to the right: ")?;
-    run(
-        rt,
-        alloc,
-        sources::around(alloc, b"1+(", 100_000, b"7", b")")?,
-    )?;
-    print!(rt; "100,000 blocks: ")?;
-    run(rt, alloc, sources::blocks(alloc, b"{", 100_000, b"}")?)?;
-    print!(rt; "10,000 ifs: ")?;
-    run(
-        rt,
-        alloc,
-        sources::blocks(alloc, b"if x == 1 {", 10_000, b"}")?,
-    )?;
-    print!(rt; "a variable declared anew in 400 blocks: ")?;
-    run(
-        rt,
-        alloc,
-        sources::blocks(alloc, b"{ var x: int = x + 1; y = x;", 400, b"}")?,
-    )?;
+/// Prints what a source shows, and what each of its trials comes to.
+fn show_row<R: Threads + Print + Sync>(rt: &R, alloc: Global, row: Row) -> io::Result<()> {
+    let (shows, source, trials) = row;
+    print!(rt; "{shows}: ")?;
+    let text = source.text(alloc)?;
+    for &trial in trials {
+        attempt(rt, alloc, trial, &text)?;
+    }
     Ok(())
 }
 
 fn main(rt: HostRuntime) -> io::Result<()> {
-    at_the_limits(&rt, rt.alloc())?;
-    long_ones(&rt, rt.alloc())?;
-    deep_ones(&rt, rt.alloc())?;
+    for &row in SOURCES {
+        show_row(&rt, rt.alloc(), row)?;
+    }
     println!(rt; "the greatest drill:")?;
     let words = ["pareas", "drill", "--seed", "1", "--functions", "4096"];
     show(&rt, rt.alloc(), &words, b"")

@@ -2,6 +2,70 @@
 
 use std::alloc::{AllocError, Global};
 
+/// A source of many bytes.
+#[derive(Clone, Copy)]
+pub(crate) enum Source {
+    /// So many variables, each of which takes a word of the frame of `main`.
+    Variables(u32),
+    /// So many statements of one word each.
+    Zeros(u32),
+    /// So many bytes of white space alone.
+    Spaces(usize),
+    /// A program whose value is an expression that begins and ends so many times with these pieces.
+    Around {
+        before: &'static [u8],
+        count: u32,
+        middle: &'static [u8],
+        behind: &'static [u8],
+    },
+    /// A program with a statement inside so many others.
+    Blocks {
+        before: &'static [u8],
+        count: u32,
+        behind: &'static [u8],
+    },
+    /// One line with a name of `length` bytes in a declaration and in so many sums.
+    LongNames {
+        length: usize,
+        count: u32,
+    },
+    /// A comment of so many bytes behind a program.
+    Comment(u32),
+    /// So many functions besides the first one, each of which adds one to what the one before it gives.
+    CallsInARow(u32),
+    /// So many functions that give 0, and `main`, which calls the first of them.
+    Names(u32),
+    /// A call of a function without parameters with so many arguments.
+    Arguments(u32),
+}
+
+impl Source {
+    /// The bytes of the source.
+    pub(crate) fn text(self, alloc: Global) -> Result<Vec<u8>, AllocError> {
+        match self {
+            Source::Variables(count) => variables(alloc, count),
+            Source::Zeros(count) => zeros(alloc, count),
+            Source::Spaces(count) => vec![in alloc; b' '; count],
+            Source::Around {
+                before,
+                count,
+                middle,
+                behind,
+            } => around(alloc, before, count, middle, behind),
+            Source::Blocks {
+                before,
+                count,
+                behind,
+            } => blocks(alloc, before, count, behind),
+            Source::LongNames { length, count } => long_names(alloc, length, count),
+            Source::Comment(count) => comment(alloc, count),
+            Source::CallsInARow(count) => calls_in_a_row(alloc, count),
+            Source::Names(count) => names(alloc, count),
+            Source::Arguments(count) => arguments(alloc, count),
+        }
+    }
+}
+
 // Puts a piece of text behind another one so many times.
 fn repeat(text: &mut Vec<u8>, piece: &[u8], count: u32) -> Result<(), AllocError> {
     for _ in 0..count {
@@ -10,8 +74,7 @@ fn repeat(text: &mut Vec<u8>, piece: &[u8], count: u32) -> Result<(), AllocError
     Ok(())
 }
 
-/// So many variables, each of which takes a word of the frame of `main`.
-pub(crate) fn variables(alloc: Global, count: u32) -> Result<Vec<u8>, AllocError> {
+fn variables(alloc: Global, count: u32) -> Result<Vec<u8>, AllocError> {
     let mut text = b"fn main(): int {".to_vec(alloc)?;
     for number in 0..count {
         let declaration = format!(in alloc; " var v{number}: int = 0;")?;
@@ -21,21 +84,14 @@ pub(crate) fn variables(alloc: Global, count: u32) -> Result<Vec<u8>, AllocError
     Ok(text)
 }
 
-/// So many statements of one word each.
-pub(crate) fn zeros(alloc: Global, count: u32) -> Result<Vec<u8>, AllocError> {
+fn zeros(alloc: Global, count: u32) -> Result<Vec<u8>, AllocError> {
     let mut text = b"fn main(): int {".to_vec(alloc)?;
     repeat(&mut text, b"0;", count)?;
     text.push(b'}')?;
     Ok(text)
 }
 
-/// White space alone.
-pub(crate) fn spaces(alloc: Global, count: usize) -> Result<Vec<u8>, AllocError> {
-    vec![in alloc; b' '; count]
-}
-
-/// A program whose value is an expression that begins and ends so many times with these pieces.
-pub(crate) fn around(
+fn around(
     alloc: Global,
     before: &[u8],
     count: u32,
@@ -53,13 +109,7 @@ pub(crate) fn around(
     Ok(text)
 }
 
-/// A program with a statement inside so many others.
-pub(crate) fn blocks(
-    alloc: Global,
-    before: &[u8],
-    count: u32,
-    behind: &[u8],
-) -> Result<Vec<u8>, AllocError> {
+fn blocks(alloc: Global, before: &[u8], count: u32, behind: &[u8]) -> Result<Vec<u8>, AllocError> {
     let mut text = b"fn main(): int { var x: int = 1; var y: int = 0; ".to_vec(alloc)?;
     repeat(&mut text, before, count)?;
     text.extend_from_slice(b" y = y + 1; ")?;
@@ -68,8 +118,7 @@ pub(crate) fn blocks(
     Ok(text)
 }
 
-/// One line with a name of `length` bytes in a declaration and in so many sums.
-pub(crate) fn long_names(alloc: Global, length: usize, count: u32) -> Result<Vec<u8>, AllocError> {
+fn long_names(alloc: Global, length: usize, count: u32) -> Result<Vec<u8>, AllocError> {
     let name = vec![in alloc; b'n'; length]?;
     let mut text = b"fn main(): int { var ".to_vec(alloc)?;
     text.extend_from_slice(&name)?;
@@ -86,15 +135,13 @@ pub(crate) fn long_names(alloc: Global, length: usize, count: u32) -> Result<Vec
     Ok(text)
 }
 
-/// A comment of so many bytes behind a program.
-pub(crate) fn comment(alloc: Global, count: u32) -> Result<Vec<u8>, AllocError> {
+fn comment(alloc: Global, count: u32) -> Result<Vec<u8>, AllocError> {
     let mut text = b"fn main(): int { return 7; } //".to_vec(alloc)?;
     repeat(&mut text, b"/", count)?;
     Ok(text)
 }
 
-/// So many functions besides the first one, each of which adds one to what the one before it gives.
-pub(crate) fn calls_in_a_row(alloc: Global, count: u32) -> Result<Vec<u8>, AllocError> {
+fn calls_in_a_row(alloc: Global, count: u32) -> Result<Vec<u8>, AllocError> {
     let mut text = b"fn f0(): int { return 0; }\n".to_vec(alloc)?;
     for number in 0..count {
         let next = u64::from(number) + 1;
@@ -106,8 +153,7 @@ pub(crate) fn calls_in_a_row(alloc: Global, count: u32) -> Result<Vec<u8>, Alloc
     Ok(text)
 }
 
-/// So many functions that give 0, and `main`, which calls the first of them.
-pub(crate) fn names(alloc: Global, count: u32) -> Result<Vec<u8>, AllocError> {
+fn names(alloc: Global, count: u32) -> Result<Vec<u8>, AllocError> {
     let mut text = Vec::new(alloc);
     for number in 0..count {
         let function = format!(in alloc; "fn f{number}(): int {{ }}\n")?;
@@ -117,8 +163,7 @@ pub(crate) fn names(alloc: Global, count: u32) -> Result<Vec<u8>, AllocError> {
     Ok(text)
 }
 
-/// A call of a function without parameters with so many arguments.
-pub(crate) fn arguments(alloc: Global, count: u32) -> Result<Vec<u8>, AllocError> {
+fn arguments(alloc: Global, count: u32) -> Result<Vec<u8>, AllocError> {
     let mut text = b"fn f(): int { return 0; } fn main(): int { return f[0".to_vec(alloc)?;
     repeat(&mut text, b", 0", count.saturating_sub(1))?;
     text.extend_from_slice(b"]; }")?;
