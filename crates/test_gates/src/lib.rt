@@ -10,3 +10,6 @@ pub use crews::{OutOfRange, PLANS, at};
 pub use draws::Draws;
 pub use meeting::Meeting;
 pub use roll::Roll;
+
+#[cfg(test)]
+mod tests;
