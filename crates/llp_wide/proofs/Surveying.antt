@@ -14,6 +14,7 @@ use Rattle.grammar_file.specs.Laws.Words.{same_head, same_tail, same_nonterminal
 use Rattle.ll1_sets.specs.Laws.FollowMarks.{parts_of, symbol_at, rest_at}
 use Rattle.ll1_sets.specs.Marking.{all_vanish}
 use Rattle.ll1_sets.specs.Laws.FormTests.{Nullable, and, both, either, or_left, or_right}
+use Rattle.ll1_sets.specs.Laws.BehindBounds.{all_left}
 use Rattle.llp_wide.specs.declared.endings.LastMarks.{LastMarks}
 use Rattle.llp_wide.specs.declared.places.Entrance.{Entrance}
 use Rattle.llp_wide.specs.Added.{IsIn, Adds}
@@ -25,7 +26,7 @@ use Rattle.llp_wide.proofs.Additions.{in_parts, in_last, in_still}
 use Rattle.llp_wide.proofs.Finding.{within_product, same_place, in_at, at_in}
 use Rattle.llp_wide.proofs.LastSets.{ending_is, ending_tests}
 use Rattle.llp_wide.proofs.Stacks.{Stands, stands_first, stands_match, entered_of_stands, stands_of_entered}
-use Rattle.llp_wide.proofs.WideBounds.{place_below, front_all, entered_below, entered_low, entered_not_any, by_below, by_low}
+use Rattle.llp_wide.proofs.WideBounds.{place_below, entered_below, entered_low, entered_not_any, by_below, by_low}
 use Rattle.llp_wide.proofs.WideRules.{Ruled, ruled_stands, at_place, ending_mark}
 
 abbrev pub start : Entrance
@@ -102,7 +103,7 @@ module _ (g : Grammar) (nullable : List Bool) (all : List LastMarks) where
         low = let n = ends.count in omega arith
 
         ours : AllByRecursion (IsSymbol g) front
-        ours = front_all (IsSymbol g) front (spot.symbol ∷ after) (subst (AllByRecursion (IsSymbol g)) right_is (well.symbols (suc i) rule rule_is))
+        ours = all_left (IsSymbol g) front (spot.symbol ∷ after) (subst (AllByRecursion (IsSymbol g)) right_is (well.symbols (suc i) rule rule_is))
 
         place : (z0 : ℕ) → IsEntered g z0 e.nonterminal → is_ending nullable (marks_at all y) z0 y front ≡ true → IsWidePlace g z0 e.nonterminal y spot.symbol after
         place z0 entered h =

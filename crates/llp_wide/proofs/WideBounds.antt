@@ -8,20 +8,9 @@ use Rattle.grammar_file.specs.Grammar.{Grammar, Production, production, end_mark
 use Rattle.grammar_file.specs.Derivation.{Derives, word_form}
 use Rattle.grammar_file.specs.Laws.Derives.{behind_terminal, first_step, derives_nil}
 use Rattle.grammar_file.specs.Laws.Words.{nil-cons}
+use Rattle.ll1_sets.specs.Laws.BehindBounds.{all_left, all_right, all_both}
 use Rattle.llp_wide.specs.Wide.{wide_whole}
 use Rattle.llp_wide.specs.WideBehind.{last_behind, any_before, IsEntered, IsEnteredBy, IsWidePlace, WideBehind, here, through, of_start, of_begin}
-
-pub front_all : (P : Symbol → Type 0) (u v : List Symbol) → AllByRecursion P (u ++ v) → AllByRecursion P u
-front_all P [] v h = tt
-front_all P (s ∷ u) v h = (h.0, front_all P u v h.1)
-
-pub back_all : (P : Symbol → Type 0) (u v : List Symbol) → AllByRecursion P (u ++ v) → AllByRecursion P v
-back_all P [] v h = h
-back_all P (s ∷ u) v h = back_all P u v h.1
-
-both_all : (P : Symbol → Type 0) (u v : List Symbol) → AllByRecursion P u → AllByRecursion P v → AllByRecursion P (u ++ v)
-both_all P [] v h k = k
-both_all P (s ∷ u) v h k = (h.0, both_all P u v h.1 k)
 
 module _ (g : Grammar) (well : IsWellFormed g) where
   -- a terminal of the grammar or a mark, or a nonterminal of it
@@ -49,7 +38,7 @@ module _ (g : Grammar) (well : IsWellFormed g) where
   keeps_next p ps ih (Terminal c ∷ u) v h d = keeps_terminal (p ∷ ps) c u (keeps_next p ps ih u) v h d
   keeps_next p ps ih (Nonterminal a ∷ u) v h d =
       let s = first_step g p a u ps v d in
-      ih (s.0 ++ u) v (both_all IsBounded s.0 u (bounded s.0 (well.symbols p (record { left = a; right = s.0 }) s.1)) h.1) s.2
+      ih (s.0 ++ u) v (all_both IsBounded s.0 u (bounded s.0 (well.symbols p (record { left = a; right = s.0 }) s.1)) h.1) s.2
 
   keeps : (ps : List ℕ) → Keeps ps
   keeps [] = keeps_none
@@ -73,7 +62,7 @@ module _ (g : Grammar) (well : IsWellFormed g) where
   entered_below z a (ps, x, rest, d) = middle_bounded x z (Nonterminal a ∷ rest) (entered_bounded z a ps x rest d)
 
   pub entered_low : (z a : ℕ) → IsEntered g z a → a < length g.nonterminals
-  entered_low z a (ps, x, rest, d) = (back_all IsBounded (word_form (x ++ z ∷ [])) (Nonterminal a ∷ rest) (entered_bounded z a ps x rest d)).0
+  entered_low z a (ps, x, rest, d) = (all_right IsBounded (word_form (x ++ z ∷ [])) (Nonterminal a ∷ rest) (entered_bounded z a ps x rest d)).0
 
   -- what is matched last before a nonterminal is no number that stands for any
   pub entered_not_any : (z a : ℕ) → IsEntered g z a → z ≡ any_before g → ⊥
@@ -95,10 +84,10 @@ module _ (g : Grammar) (well : IsWellFormed g) where
       let ours = subst (AllByRecursion (IsSymbol g)) place.right_is (well.symbols place.p place.rule place.rule_is) in
       let e = place.ending in
       subst (λ (n : ℕ). n < length g.terminals + 2) e.3
-      (last_bounded e.1 z0 (entered_below z0 owner place.entered) (keeps e.0 place.before (word_form e.1) (bounded place.before (front_all (IsSymbol g) place.before (s ∷ after) ours)) e.2))
+      (last_bounded e.1 z0 (entered_below z0 owner place.entered) (keeps e.0 place.before (word_form e.1) (bounded place.before (all_left (IsSymbol g) place.before (s ∷ after) ours)) e.2))
 
   pub place_symbol : (z0 owner z : ℕ) (s : Symbol) (after : List Symbol) → IsWidePlace g z0 owner z s after → IsSymbol g s
-  place_symbol z0 owner z s after place = (back_all (IsSymbol g) place.before (s ∷ after) (subst (AllByRecursion (IsSymbol g)) place.right_is (well.symbols place.p place.rule place.rule_is))).0
+  place_symbol z0 owner z s after place = (all_right (IsSymbol g) place.before (s ∷ after) (subst (AllByRecursion (IsSymbol g)) place.right_is (well.symbols place.p place.rule place.rule_is))).0
 
   pub behind_below : (z : ℕ) (s : Symbol) (b : ℕ) (w : List Symbol) → WideBehind g z s b w → z < length g.terminals + 2
   behind_below _ _ _ _ (here z0 owner z s after beta rest b place parts begins) = place_below z0 owner z s after place

@@ -14,7 +14,7 @@ ghost use Rattle.llp_wide.specs.Triples.{ArePiecesFor, HasNumber, TellsTriple};
 ghost use Rattle.llp_wide.specs.WideConflicts.{IsWideLlpOn, TellWide};
 
 use grammar_file::{Grammar, Symbol};
-use llp_tables::{Cell, Members, add_piece, first, piece_length, predictions};
+use llp_tables::{Cell, Members, PieceRoom, add_piece, first, predictions};
 use std::alloc::{AllocError, Global};
 use std::marker::Model;
 
@@ -71,7 +71,7 @@ pub(crate) fn sets_ahead(
 fn piece_of(
     alloc: Global,
     grammar: &Grammar,
-    lengths: &[Option<u64>],
+    room: &PieceRoom,
     ahead: &Ahead,
     closes: &[Symbol],
 ) -> Result<WidePiece, AllocError>
@@ -82,14 +82,8 @@ fn piece_of(
     ensures piece { IfOk result (λ p. IsPiece grammar.now ahead.now.b closes.now p.opens p.productions) }
 {
     let predictions = ahead.predictions.as_slice();
-    let length = piece_length(
-        grammar,
-        ahead.first.as_slice(),
-        predictions,
-        lengths,
-        closes,
-    );
-    let mut productions = Vec::with_capacity(alloc, length as usize)?;
+    let first = ahead.first.as_slice();
+    let mut productions = room.no_productions(alloc, grammar, first, predictions, closes)?;
     let opens = add_piece(
         alloc,
         grammar,
@@ -130,7 +124,7 @@ fn find_piece(pieces: &[WidePiece], start: usize, closes: &[Symbol]) -> Option<u
 fn number_of(
     alloc: Global,
     grammar: &Grammar,
-    lengths: &[Option<u64>],
+    room: &PieceRoom,
     ahead: &Ahead,
     closes: &[Symbol],
     start: usize,
@@ -147,7 +141,7 @@ fn number_of(
         return Ok(n as u32);
     }
     let n = pieces.len() as u32;
-    let piece = piece_of(alloc, grammar, lengths, ahead, closes)?;
+    let piece = piece_of(alloc, grammar, room, ahead, closes)?;
     pieces.push(piece)?;
     Ok(n)
 }
@@ -169,7 +163,7 @@ fn only_member(classes: &[Members], z: u16, a: u16) -> Option<&[Symbol]>
 pub(crate) fn triple_number(
     alloc: Global,
     grammar: &Grammar,
-    lengths: &[Option<u64>],
+    room: &PieceRoom,
     ahead: &Ahead,
     classes: &[Members],
     z: u16,
@@ -187,7 +181,7 @@ pub(crate) fn triple_number(
 {
     match only_member(classes, z, a) {
         Some(closes) => {
-            let number = number_of(alloc, grammar, lengths, ahead, closes, start, pieces)?;
+            let number = number_of(alloc, grammar, room, ahead, closes, start, pieces)?;
             Ok(Some(number))
         }
         None => Ok(None),

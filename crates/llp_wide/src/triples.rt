@@ -18,7 +18,7 @@ use crate::pieces::{Ahead, WidePiece, sets_ahead, triple_number};
 use crate::places::Group;
 use grammar_file::Grammar;
 use ll1_sets::width_of;
-use llp_tables::{Members, empty_lengths};
+use llp_tables::{Members, PieceRoom};
 use std::alloc::{AllocError, Global};
 
 /// The numbers of the pieces of triples, layer by layer and row by row, and the pieces.
@@ -32,7 +32,7 @@ pub(crate) struct Triples {
 fn add_triple(
     alloc: Global,
     grammar: &Grammar,
-    lengths: &[Option<u64>],
+    room: &PieceRoom,
     ahead: &Ahead,
     classes: &[Members],
     z: u16,
@@ -54,7 +54,7 @@ fn add_triple(
     let number = triple_number(
         alloc,
         grammar,
-        lengths,
+        room,
         ahead,
         classes,
         z,
@@ -70,7 +70,7 @@ fn add_triple(
 fn add_row(
     alloc: Global,
     grammar: &Grammar,
-    lengths: &[Option<u64>],
+    room: &PieceRoom,
     ahead: &Ahead,
     classes: &[Members],
     z: u16,
@@ -87,9 +87,7 @@ fn add_row(
     ensures { OnOk result (AreTriplesUpTo grammar.now ahead.now.b start (triple_place (width_of grammar.now) (z + 1) 0 ahead.now.b) triples.new.numbers.items triples.new.pieces.items) }
 {
     for a in 0..grammar.terminals().len() as u16 + 2 {
-        add_triple(
-            alloc, grammar, lengths, ahead, classes, z, a, start, triples,
-        )?;
+        add_triple(alloc, grammar, room, ahead, classes, z, a, start, triples)?;
     }
     Ok(())
 }
@@ -98,7 +96,7 @@ fn add_row(
 fn add_layer(
     alloc: Global,
     grammar: &Grammar,
-    lengths: &[Option<u64>],
+    room: &PieceRoom,
     ahead: &Ahead,
     classes: &[Members],
     triples: &mut Triples,
@@ -115,7 +113,7 @@ fn add_layer(
 {
     let start = triples.pieces.len();
     for z in 0..width_of(grammar) {
-        add_row(alloc, grammar, lengths, ahead, classes, z, start, triples)?;
+        add_row(alloc, grammar, room, ahead, classes, z, start, triples)?;
     }
     Ok(())
 }
@@ -125,7 +123,7 @@ fn next_layer(
     alloc: Global,
     grammar: &Grammar,
     nullable: &[bool],
-    lengths: &[Option<u64>],
+    room: &PieceRoom,
     classes: &[Members],
     b: u16,
     triples: &mut Triples,
@@ -139,7 +137,7 @@ fn next_layer(
     ensures { OnOk result (AreLayers grammar.now (b + 1) triples.new.numbers.items triples.new.pieces.items) }
 {
     let sets = sets_ahead(alloc, grammar, nullable, b)?;
-    add_layer(alloc, grammar, lengths, &sets, classes, triples)
+    add_layer(alloc, grammar, room, &sets, classes, triples)
 }
 
 // Whether there is no conflict.
@@ -157,7 +155,7 @@ fn is_added(
     alloc: Global,
     grammar: &Grammar,
     nullable: &[bool],
-    lengths: &[Option<u64>],
+    room: &PieceRoom,
     classes: &[Members],
     b: u16,
     is_whole: bool,
@@ -178,7 +176,7 @@ fn is_added(
     if !is_free(conflict) {
         return false;
     }
-    match next_layer(alloc, grammar, nullable, lengths, classes, b, triples) {
+    match next_layer(alloc, grammar, nullable, room, classes, b, triples) {
         Ok(()) => true,
         Err(AllocError) => false,
     }
@@ -207,7 +205,7 @@ pub(crate) fn conflict_or_triples(
     ensures conflict { IfOk result (λ r. MatchOption r.0 (IsWideLlp grammar.now) (λ k. IsLeastWideConflict grammar.now k.z k.a k.b k.first k.second)) }
     ensures triples { IfOk result (λ r. IfSome r.1 (λ t. AreLayers grammar.now (width_of grammar.now) t.numbers.items t.pieces.items)) }
 {
-    let lengths = empty_lengths(alloc, grammar)?;
+    let room = PieceRoom::of(alloc, grammar)?;
     let mut triples = Triples {
         numbers: Vec::new(alloc),
         pieces: Vec::new(alloc),
@@ -222,7 +220,7 @@ pub(crate) fn conflict_or_triples(
             alloc,
             grammar,
             nullable,
-            lengths.as_slice(),
+            &room,
             classes.as_slice(),
             b,
             is_whole,

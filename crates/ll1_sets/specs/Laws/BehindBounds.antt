@@ -13,15 +13,15 @@ use Rattle.ll1_sets.specs.Behind.{Behind, here, through, of_start, of_begin}
 use Rattle.ll1_sets.specs.Laws.FollowSets.{begins_first}
 
 module _ (P : Symbol → Type 0) where
-  all_left : (u v : List Symbol) → AllByRecursion P (u ++ v) → AllByRecursion P u
+  pub all_left : (u v : List Symbol) → AllByRecursion P (u ++ v) → AllByRecursion P u
   all_left [] v h = tt
   all_left (s ∷ u) v h = (h.0, all_left u v h.1)
 
-  all_right : (u v : List Symbol) → AllByRecursion P (u ++ v) → AllByRecursion P v
+  pub all_right : (u v : List Symbol) → AllByRecursion P (u ++ v) → AllByRecursion P v
   all_right [] v h = h
   all_right (s ∷ u) v h = all_right u v h.1
 
-  all_both : (u v : List Symbol) → AllByRecursion P u → AllByRecursion P v → AllByRecursion P (u ++ v)
+  pub all_both : (u v : List Symbol) → AllByRecursion P u → AllByRecursion P v → AllByRecursion P (u ++ v)
   all_both [] v h k = k
   all_both (s ∷ u) v h k = (h.0, all_both u v h.1 k)
 
