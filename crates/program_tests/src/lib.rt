@@ -4,7 +4,13 @@
 #[cfg(test)]
 mod calls;
 #[cfg(test)]
+mod commands;
+#[cfg(test)]
+mod ends;
+#[cfg(test)]
 mod overlap;
+#[cfg(test)]
+mod plans;
 #[cfg(test)]
 mod tables;
 #[cfg(test)]

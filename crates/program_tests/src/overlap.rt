@@ -1,16 +1,15 @@
 //! That the workers of the compiler's passes overlap: of two workers, the first that draws chunk 0 waits for the other.
 
+use crate::calls::{Call, SEVEN, SOUND, memory_of, words_of};
 use chunk_seats::{Gate, OpenGate, Plan};
 use front_end::{language_tables, lexed, named, parsed, shaped, typed};
 use par_passes::Workers;
-use pareas_core::{MemoryIn, MemoryOut, Status, code, front, pareas};
-use std::alloc::{AllocError, Global};
+use pareas_core::{Status, code, front, pareas};
+use std::alloc::Global;
 use std::process::Abort;
 use std::sync::atomic::{AtomicU64, Ordering};
 use std::test::Fail;
 use std::thread::Threads;
-
-const SEVEN: &[u8] = b"fn main(): int { return 7; }";
 
 // The first worker that draws chunk 0 waits until the other has drawn too, or found nothing to draw, for so many turns at most.
 #[derive(Drop)]
@@ -121,23 +120,16 @@ fn draws_of_code<R: Threads + Abort + Sync>(rt: &R, alloc: Global) -> Result<u64
     Ok(gate.draws(rt))
 }
 
-// The program's words, each a copy.
-fn words_of(alloc: Global, words: &[&str]) -> Result<Vec<String>, AllocError> {
-    let mut all = Vec::new(alloc);
-    for word in words {
-        all.push(String::from_str(alloc, word)?)?;
-    }
-    Ok(all)
-}
-
 // How often it is drawn by `pareas build`.
 fn draws_of_build<R: Threads + Abort + Sync>(rt: &R, alloc: Global) -> Result<u64, Fail> {
-    let words = ["pareas", "build", "--workers", "2", "--chunk", "1"];
-    let words = words_of(alloc, &words)?;
+    let call = Call {
+        words: &["build"],
+        plan: &["--workers", "2", "--chunk", "1"],
+        source: SEVEN,
+    };
+    let words = words_of(alloc, call)?;
+    let (mut input, mut out, mut notes) = memory_of(rt, alloc, call.source, SOUND)?;
     let gate = Meeting::new();
-    let mut input = MemoryIn::new(SEVEN.to_vec(alloc)?, 4096, Vec::new(alloc));
-    let mut out = MemoryOut::new(alloc, 4096, 4096, Vec::new(alloc))?;
-    let mut notes = MemoryOut::new(alloc, 4096, 4096, Vec::new(alloc))?;
     let status = pareas(rt, alloc, &words, &mut input, &mut out, &mut notes, &gate);
     assert_eq!(rt; status, Status::Done);
     assert_eq!(rt; out.written().len(), 144);
