@@ -1,27 +1,36 @@
-//! The program `pareas`: the real input and outputs round the compiler.
+//! The program `pareas`: the real words, input and outputs round the compiler.
 #![tactic(auto)]
+
+ghost use Rattle.std.specs.Prelude.{◌≡◌, ◌⊎◌};
+ghost use Rattle.pareas_core.specs.declared.status.Status.TheVariants.{Usage, WriteFault};
 
 use chunk_seats::OpenGate;
 use pareas_core::{Status, pareas};
-use std::alloc::Global;
-use std::env::{self, Env};
-use std::io;
+use std::io::Write;
 use std::process::ExitCode;
-use stream_ends::{Reader, Writer};
+use stream_ends::{Reader, WordsFault, Writer, words};
 
-/// The words of the command line, the program's name first. A word that isn't UTF-8 is in no command, so then there are none.
-fn words<R: Env + AllocGlobal>(rt: &R) -> io::Result<Vec<String>> {
-    let alloc: Global = rt.alloc();
-    match env::args(rt) {
-        Ok(words) => Ok(words.collect(alloc)?),
-        Err(error) if error.kind() == io::ErrorKind::InvalidData => Ok(Vec::new(alloc)),
-        Err(error) => Err(error),
+/// What is written to the notes where a word isn't UTF-8.
+const NOT_UTF8: &[u8] =
+    b"error: a word of the command line isn't UTF-8\n\nFor more information, try '--help'.\n";
+
+/// Refuses words of which one isn't UTF-8.
+fn refuse_not_utf8<W: Write>(notes: &mut W) -> Status
+    ensures { (result ≡ Usage) ⊎ (result ≡ WriteFault) }
+{
+    match notes.write_all(NOT_UTF8) {
+        Ok(()) => Status::Usage,
+        Err(_) => Status::WriteFault,
     }
 }
 
 fn main(rt: HostRuntime) -> ExitCode {
-    let Ok(words) = words(&rt) else {
-        return ExitCode::from(Status::NoMemory.number());
+    let words = match words(&rt, rt.alloc()) {
+        Ok(words) => words,
+        Err(WordsFault::NotUtf8) => {
+            return ExitCode::from(refuse_not_utf8(&mut rt.stderr()).number());
+        }
+        Err(WordsFault::NoMemory) => return ExitCode::from(Status::NoMemory.number()),
     };
     let mut input = Reader::new(rt.stdin());
     let mut out = Writer::new(rt.stdout());
