@@ -9,7 +9,7 @@ pub enum Refusal {
     /// The source's first diagnostic.
     #[error("error {code} at byte {at}")]
     Diagnostic {
-        /// The diagnostic's number: 101 to 506.
+        /// The diagnostic's number: 101 to 507.
         code: u16,
         /// The place of a byte of the source, from 0 on; its length stands for the end.
         at: u32,

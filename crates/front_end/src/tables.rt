@@ -4,8 +4,8 @@ ghost use Rattle.source_meaning.specs.Grammar.{grammar};
 ghost use Rattle.grammar_file.specs.Spelling.{IsReduced};
 ghost use Rattle.llp_tables.specs.EntryTable.{AreTablesOf};
 
-use grammar_file::{G1, Grammar, spelled_grammars_are_well_formed};
-use llp_tables::{Tables, g1_is_ll1_and_llp, grammars_have_one_answer};
+use grammar_file::{G2, Grammar, spelled_grammars_are_well_formed};
+use llp_tables::{Tables, g2_is_ll1_and_llp, grammars_have_one_answer};
 use source_meaning::grammar_is_spelled;
 use std::alloc::{AllocError, Global};
 
@@ -14,7 +14,7 @@ fn language_grammar(alloc: Global) -> Result<Grammar, AllocError>
     ensures { IfOk result (λ g. (g ≡ grammar) × IsReduced grammar) }
 {
     grammar_is_spelled();
-    match Grammar::read(alloc, G1) {
+    match Grammar::read(alloc, G2) {
         Ok(grammar) => Ok(grammar),
         Err(_) => Err(AllocError),
     }

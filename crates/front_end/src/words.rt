@@ -41,6 +41,7 @@ fn terminal_number(terminal: Terminal) -> u16
         Terminal::FalseWord => 27,
         Terminal::LeftBracket => 28,
         Terminal::RightBracket => 29,
+        Terminal::PrintWord => 30,
     }
 }
 

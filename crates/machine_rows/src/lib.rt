@@ -14,6 +14,8 @@ mod listings;
 #[cfg(test)]
 mod machines;
 #[cfg(test)]
+mod prints;
+#[cfg(test)]
 mod regions;
 #[cfg(test)]
 mod runs;

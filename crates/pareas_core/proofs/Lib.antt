@@ -4,3 +4,4 @@ pub mod MemoryReads
 pub mod FaultLine
 pub mod Large
 pub mod Rest
+mod Printing

@@ -17,12 +17,12 @@ use Rattle.elf_file.specs.declared.fault.ElfFault.{ElfFault}
 use Rattle.elf_text.specs.Listing.{dumped, file_of_text}
 use Rattle.rv_text.specs.declared.fault.AsmFault.{AsmFault}
 use Rattle.rv_code.specs.Code.{words}
-use Rattle.rv32_emul.specs.Machine.{Outcome, Exits, Faults, More, machine}
+use Rattle.rv32_emul.specs.Machine.{Outcome, Course, Exits, Faults, More, machine}
 use Rattle.simulation.specs.Behaves.{Behaves, IsFaulty, Overruns}
 use Rattle.table_text.specs.Answers.{IsTableAnswer}
 use Rattle.table_text.specs.declared.answer.TableAnswer.{TableAnswer}
 use Rattle.table_text.specs.declared.answer.TableAnswer.TheVariants as answers
-use Rattle.pareas_core.specs.Output.{Due, done, due_of_verdict, due_of_machine, due_of_dump, due_of_asm, due_of_drill, drill_lines, drill_steps, due_of_table, IsDue, built, ran, emulated, listed, assembled, tabled, drilled}
+use Rattle.pareas_core.specs.Output.{Due, done, due_of_verdict, due_of_machine, due_of_dump, due_of_asm, due_of_drill, drill_lines, drill_steps, due_of_table, status_of, IsDue, built, ran, emulated, listed, assembled, tabled, drilled}
 use Rattle.pareas_core.specs.Reading.{ReadsUpTo, WritesPrefix}
 use Rattle.pareas_core.specs.Headline.{CompilesTo, RunsAs, Runs, what_was_read, what_was_made, HasRun, HasRead, IsToldOf, reads, most_bytes, read_by, End, HasFailed, HasWorked, GotPrefix, IsWritten, IsAnswer, MeetsWords, IsResponse, IsDelivered, whole, broken_off}
 
@@ -125,14 +125,22 @@ compiled bytes out notes k one none =
     }
 
 -- where the machine's status is a fault, the machine is faulty
-faulty : (lines file : List ℕ) (steps : ℕ) → (due_of_machine lines (machine file steps)).status ≡ statuses.Machine → IsFaulty file steps
+came_to_fault : (file : List ℕ) (steps : ℕ) (o : Outcome) (printed : List ℕ) → machine file steps ≡ Ok (record { outcome = o; printed = printed })
+    → status_of o ≡ statuses.Machine → IsFaulty file steps printed
+came_to_fault file steps (Exits value) printed e h = cc
+came_to_fault file steps (Faults kind at address) printed e h = (kind, at, address, e)
+came_to_fault file steps More printed e h = cc
+
+faulty : (lines file : List ℕ) (steps : ℕ) → (due_of_machine lines (machine file steps)).status ≡ statuses.Machine → (printed : List ℕ) × IsFaulty file steps printed
 faulty lines file steps h = go (machine file steps) refl h
   where
-    go : (m : Result Outcome ElfFault) → machine file steps ≡ m → (due_of_machine lines m).status ≡ statuses.Machine → IsFaulty file steps
-    go (Ok (Exits value)) e h = cc
-    go (Ok (Faults kind at address)) e h = (kind, at, address, e)
-    go (Ok More) e h = cc
+    go : (m : Result Course ElfFault) → machine file steps ≡ m → (due_of_machine lines m).status ≡ statuses.Machine → (printed : List ℕ) × IsFaulty file steps printed
+    go (Ok course) e h = (course.printed, came_to_fault file steps course.outcome course.printed e h)
     go (Err fault) e h = cc
+
+-- a program whose image is faulty overruns its stack
+overrun : (p : Program) (file : List ℕ) (m : ℕ) → Behaves p file → ((printed : List ℕ) × IsFaulty file m printed) → (printed : List ℕ) × Overruns p file m printed
+overrun p file m behaves (printed, faulty) = (printed, (behaves.overruns_only m printed faulty).0)
 
 -- a command runs the program of this text alone, and for so many steps
 abbrev pub RunsOnly : Command → List ℕ → List ℕ → ℕ → Type 0
@@ -161,8 +169,9 @@ module _ (c : Command) (bytes text : List ℕ) (before : List ℕ → List ℕ) 
               program = k.program;
               accepted = k.accepted;
               behaves = behaves;
-              overran = λ fault. subst (Overruns k.program (image k.program)) (sym it.1)
-                  (behaves.overruns_only steps (faulty (before (image k.program)) (image k.program) steps (ap (λ (d : Due). d.status) same ∙ fault))).0;
+              overran = λ fault. subst (λ n. (printed : List ℕ) × Overruns k.program (image k.program) n printed) (sym it.1)
+                  (overrun k.program (image k.program) steps behaves
+                  (faulty (before (image k.program)) (image k.program) steps (ap (λ (d : Due). d.status) same ∙ fault)));
             });
       }
 
@@ -277,11 +286,15 @@ IsOutcome statuses.BadGrammar = Unit {0}
 IsOutcome statuses.BadAsm = Unit {0}
 IsOutcome s = ⊥
 
-machine_outcome : (lines : List ℕ) (m : Result Outcome ElfFault) → IsOutcome (due_of_machine lines m).status
+course_outcome : (o : Outcome) → IsOutcome (status_of o)
 unfolding IsOutcome
-machine_outcome lines (Ok (Exits value)) = tt
-machine_outcome lines (Ok (Faults kind at address)) = tt
-machine_outcome lines (Ok More) = tt
+course_outcome (Exits value) = tt
+course_outcome (Faults kind at address) = tt
+course_outcome More = tt
+
+machine_outcome : (lines : List ℕ) (m : Result Course ElfFault) → IsOutcome (due_of_machine lines m).status
+unfolding IsOutcome
+machine_outcome lines (Ok course) = course_outcome course.outcome
 machine_outcome lines (Err fault) = tt
 
 dump_outcome : (m : Result (List ℕ) ElfFault) → IsOutcome (due_of_dump m).status
@@ -421,7 +434,7 @@ failed_read words c is does input out notes failed out_is out_faults notes_are n
   undisturbed = λ e is_e none. absurd (reads_both (same_command words c e is is_e) none);
   no_output = no_words words c is;
   read_fault = λ e. (failed, (c, is, does));
-  read_fault_only = λ h. inl refl;
+  read_fault_only = λ h. refl;
   write_fault = λ e. cc;
   write_fault_only = λ h. absurd (h (out_faults, notes_faults));
   prefix = λ e all d is_e is_all fault h. cc;

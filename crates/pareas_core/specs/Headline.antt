@@ -31,7 +31,7 @@ pub record RunsAs (source : List ℕ) (steps : ℕ) (status : Status) : Type 0 w
   pub program : Program
   pub accepted : IsVerdict source (Accepted program)
   pub behaves : Behaves program (image program)
-  pub overran : status ≡ statuses.Machine → Overruns program (image program) steps
+  pub overran : status ≡ statuses.Machine → (printed : List ℕ) × Overruns program (image program) steps printed
 
 -- the most bytes of a grammar file
 abbrev pub most_grammar : ℕ
@@ -123,7 +123,7 @@ pub record MeetsWords (words : Option Command) (input out notes : End) (status :
   pub no_output : words ≡ None → Got out []
   -- a read that failed
   pub read_fault : status ≡ statuses.ReadFault → HasFailed input × ((c : Command) × (words ≡ Some c) × (reads c ≡ true))
-  pub read_fault_only : input.faults_after ≢ input.faults_before → (status ≡ statuses.ReadFault) ⊎ (status ≡ statuses.NoMemory)
+  pub read_fault_only : input.faults_after ≢ input.faults_before → status ≡ statuses.ReadFault
   -- a write that failed
   pub write_fault : status ≡ statuses.WriteFault → HasFailed out ⊎ HasFailed notes
   pub write_fault_only : ¬ ((out.faults_after ≡ out.faults_before) × (notes.faults_after ≡ notes.faults_before)) → status ≡ statuses.WriteFault

@@ -4,4 +4,5 @@ pub mod Coded
 pub mod Memory
 pub mod Reading
 pub mod Output
+pub mod Printing
 pub mod Headline

@@ -1,6 +1,7 @@
 -- What the program writes for a command and the bytes that it read, and its status.
 use Rattle.std.specs.Prelude.{ℕ, ◌+◌, ◌-◌, false, List, [], ◌++◌, length, take, replicate, codes, decimal, fold, count_by, ◌==◌, if◌then◌else◌, Option, Result, Ok, Err}
 use Rattle.std.specs.Fmt.{signed_decimal, digits}
+use Rattle.std.specs.List.{flat_map}
 use Rattle.command_line.specs.declared.command.Command.{Command}
 use Rattle.command_line.specs.declared.command.Command.TheVariants.{Build, Run, Emu, Dump, Asm, Table, Drill}
 use Rattle.drill_source.specs.Drill.{drill_text}
@@ -12,7 +13,7 @@ use Rattle.elf_file.specs.Text.{name_of}
 use Rattle.elf_text.specs.Listing.{dumped, file_of_text}
 use Rattle.rv_text.specs.FaultLines.{line_of_fault as line_of_asm_fault}
 use Rattle.rv_text.specs.declared.fault.AsmFault.{AsmFault}
-use Rattle.rv32_emul.specs.Machine.{Outcome, Exits, Faults, More, machine}
+use Rattle.rv32_emul.specs.Machine.{Outcome, Course, Exits, Faults, More, machine}
 use Rattle.pareas_core.specs.declared.status.Status.{Status}
 use Rattle.pareas_core.specs.declared.status.Status.TheVariants.{Done, Refused, Limit, Running, Machine, Conflict, BadImage, BadGrammar, BadAsm}
 use Rattle.table_text.specs.Answers.{IsTableAnswer}
@@ -53,7 +54,15 @@ due_of_verdict f text (Diagnosed code place) = noted Refused (codes "error " ++ 
 due_of_verdict f text (Limited code place bytes) = noted Limit (codes "limit " ++ at_place text code place)
 due_of_verdict f text (Accepted p) = f p
 
--- ---- the machine's line
+-- ---- the machine's lines
+
+-- a number that was printed, as a signed number
+abbrev pub number_line : ℕ → List ℕ
+number_line value = line (signed_decimal (signed value))
+
+-- all that were printed, in order
+abbrev pub number_lines : List ℕ → List ℕ
+number_lines values = flat_map number_line values
 
 abbrev pub kind_name : FaultKind → List ℕ
 kind_name Fetch = codes "fetch"
@@ -86,9 +95,10 @@ status_of (Exits value) = Done
 status_of (Faults kind at address) = Machine
 status_of More = Running
 
--- a run prints the machine's line, behind the lines that stand before it; a file that isn't loaded is refused
-abbrev pub due_of_machine : List ℕ → Result Outcome ElfFault → Due
-due_of_machine before (Ok outcome) = record { status = status_of outcome; out = before ++ machine_line outcome; notes = [] }
+-- a run writes the numbers that were printed and the machine's line, behind the lines that stand before them; a file that isn't loaded is refused
+abbrev pub due_of_machine : List ℕ → Result Course ElfFault → Due
+due_of_machine before (Ok course) =
+    record { status = status_of course.outcome; out = before ++ number_lines course.printed ++ machine_line course.outcome; notes = [] }
 due_of_machine before (Err fault) = noted BadImage (codes "image " ++ name_of fault)
 
 -- ---- listings
@@ -114,7 +124,7 @@ drill_lines text file =
 abbrev pub drill_steps : ℕ
 drill_steps = 1000000
 
--- its image runs, and the sizes stand before the machine's line
+-- its image runs, and the sizes stand before the machine's lines
 abbrev pub due_of_drill : List ℕ → List ℕ → Due
 due_of_drill text file = due_of_machine (drill_lines text file) (machine file drill_steps)
 

@@ -1,9 +1,10 @@
-// A run of an image on the machine, and the line that tells how it ended.
+// A run of an image on the machine: the lines of the numbers that it prints, and the line that tells how it ended.
 
-ghost use Rattle.std.specs.Prelude.{◌≡◌, ℕ, List, IfOk, Err};
-ghost use Rattle.pareas_core.specs.Output.{due_of_machine, exit_line, fault_line, kind_name, machine_line, status_of};
+ghost use Rattle.std.specs.Prelude.{◌≡◌, ◌++◌, ℕ, List, IfOk, Err};
+ghost use Rattle.pareas_core.specs.Output.{due_of_machine, exit_line, fault_line, kind_name, machine_line, number_line, number_lines, status_of};
+ghost use Rattle.pareas_core.specs.Printing.{answer_lines};
 ghost use Rattle.rv_isa.specs.Word.{word_of};
-ghost use Rattle.rv32_emul.specs.Machine.{machine};
+ghost use Rattle.rv32_emul.specs.Machine.{machine, numbers, outcome_of, run as runs};
 ghost use Rattle.rv32_emul.specs.Told.{told};
 
 use crate::response::Response;
@@ -32,7 +33,7 @@ fn status(outcome: &Outcome) -> Status
     match outcome {
         Outcome::Exit(_) => Status::Done,
         Outcome::Fault { .. } => Status::Machine,
-        Outcome::More => Status::Running,
+        Outcome::Print { .. } | Outcome::More => Status::Running,
     }
 }
 
@@ -56,8 +57,42 @@ fn line(alloc: Global, outcome: &Outcome) -> Result<Vec<u8>, AllocError>
     match *outcome {
         Outcome::Exit(value) => Ok(exit_text(alloc, value)?.into_bytes()),
         Outcome::Fault { kind, at, .. } => Ok(fault_text(alloc, kind, at)?.into_bytes()),
-        Outcome::More => b"running\n".to_vec(alloc),
+        Outcome::Print { .. } | Outcome::More => b"running\n".to_vec(alloc),
     }
+}
+
+fn number_text(alloc: Global, value: i32) -> Result<String, AllocError>
+    ensures { IfOk result (λ text. text.bytes.items ≡ number_line (word_of value)) }
+{
+    format!(in alloc; "{value}\n")
+}
+
+// The line of the number that a run answers with, if it has printed one.
+fn answer_line(alloc: Global, outcome: &Outcome) -> Result<Vec<u8>, AllocError>
+    ensures { IfOk result (λ bytes. bytes.items ≡ answer_lines outcome.now) }
+{
+    match *outcome {
+        Outcome::Print { value, .. } => Ok(number_text(alloc, value)?.into_bytes()),
+        _ => Ok(Vec::new(alloc)),
+    }
+}
+
+// Runs a machine for at most so many steps, and puts a line behind `out` for each number that it prints. The answer is what it has come to then.
+fn run_printing(
+    alloc: Global,
+    machine: &mut Machine,
+    steps: u64,
+    out: &mut Vec<u8>,
+) -> Result<Outcome, AllocError>
+    ensures outcome { IfOk result (λ outcome. told outcome ≡ outcome_of (runs steps machine.old)) }
+    ensures lines { IfOk result (λ _. out.new.items ≡ out.old.items ++ number_lines (numbers steps machine.old)) }
+{
+    let mut outcome = machine.run(steps);
+    while let Outcome::Print { left, .. } = outcome {
+        out.extend_from_slice(&answer_line(alloc, &outcome)?)?;
+        outcome = machine.run(left);
+    }
+    Ok(outcome)
 }
 
 /// The refusal of a file that isn't loaded.
@@ -71,7 +106,8 @@ pub(crate) fn not_loaded(alloc: Global, fault: ElfFault) -> Result<Response, All
     })
 }
 
-/// Loads the file and runs it for at most so many steps; what the run prints stands behind the lines before.
+/// Loads the file and runs it for at most so many steps. Behind the lines before stand those of the numbers that the run prints, and then the
+/// machine's line.
 pub(crate) fn emulate(
     alloc: Global,
     before: Vec<u8>,
@@ -86,8 +122,8 @@ pub(crate) fn emulate(
         Err(ReadError::Fault(fault)) => return not_loaded(alloc, fault),
         Err(ReadError::NoMemory) => return Err(AllocError),
     };
-    let outcome = machine.run(u64::from(steps));
     let mut out = before;
+    let outcome = run_printing(alloc, &mut machine, u64::from(steps), &mut out)?;
     out.extend_from_slice(&line(alloc, &outcome)?)?;
     Ok(Response {
         status: status(&outcome),

@@ -101,6 +101,18 @@ const NESTED_SUMS: Framed = Framed {
     ],
 };
 
+// A print's value stands at depth 0, and the second one's right operand is deepest.
+const PRINTS: Framed = Framed {
+    source: b"fn main(): int { print 5; print 8-(3-2); return 0; }",
+    depths: &[0, 0, 0, 1, 2, 1, 0, 0, 0, 0, 0, 0, 0],
+    frames: &[Frame {
+        registers: 3,
+        spills: 0,
+        locals: 0,
+        bytes: 16,
+    }],
+};
+
 fn frames_of(crew: &impl Passes, found: &Analysis) -> Result<Result<Frames, FrameError>, Fail> {
     if found.rows.len() > 2000 {
         return Err("too long".into());
@@ -133,7 +145,9 @@ fn is_right(crew: &impl Passes, example: u32) -> Result<bool, Fail> {
         2 => depths_are_right(crew, &DIFFERENCES),
         3 => depths_are_right(crew, &NESTED_SUMS),
         4 => frames_are_right(crew, &DIFFERENCES),
-        _ => frames_are_right(crew, &NESTED_SUMS),
+        5 => frames_are_right(crew, &NESTED_SUMS),
+        6 => depths_are_right(crew, &PRINTS),
+        _ => frames_are_right(crew, &PRINTS),
     }
 }
 
@@ -141,7 +155,7 @@ fn is_right(crew: &impl Passes, example: u32) -> Result<bool, Fail> {
 fn the_same_for_every_plan(rt: HostRuntime) -> Result<(), Fail> {
     for &plan in PLANS {
         let crew = at(&rt, rt.alloc(), plan, &OpenGate)?;
-        for example in 0..6 {
+        for example in 0..8 {
             assert!(rt; is_right(&crew, example)?, "example {example}");
         }
     }

@@ -18,18 +18,38 @@ const LEXICAL: [Diagnosed; 3] = [
     (b"fn main(): int { return f(1); } $", 101, 32),
 ];
 
-const SYNTACTIC: [Diagnosed; 4] = [
+const SYNTACTIC: [Diagnosed; 6] = [
     (b"fn main(): int { return f(1); }", 201, 25),
     (b"fn main(): int { return (1]; }", 201, 26),
     (b"fn main(): int { return 1;", 201, 26),
-    (b"fn main(): int { if true { } else if true { } }", 201, 34),
+    (
+        b"fn main(): int { if true { } else while true { } }",
+        201,
+        34,
+    ),
+    (
+        b"fn print(): int { return 0; } fn main(): int { return print[]; }",
+        201,
+        3,
+    ),
+    (b"fn main(): int { print ; }", 201, 23),
 ];
 
-const OF_SHAPE: [Diagnosed; 3] = [
+const OF_SHAPE: [Diagnosed; 5] = [
     (
         b"fn main(): int { while false { } else { } return 0; }",
         301,
         33,
+    ),
+    (
+        b"fn main(): int { if true { } else { } else if true { } }",
+        301,
+        38,
+    ),
+    (
+        b"fn main(): int { if true { } else if true { } else { } else { } }",
+        301,
+        55,
     ),
     (b"fn main(): int { 1 = 2; return 0; }", 302, 19),
     (
@@ -39,7 +59,7 @@ const OF_SHAPE: [Diagnosed; 3] = [
     ),
 ];
 
-const OF_SCOPE: [Diagnosed; 8] = [
+const OF_SCOPE: [Diagnosed; 10] = [
     (b"", 405, 0),
     (
         b"fn f(): int { } fn f(): int { } fn main(): int { }",
@@ -54,11 +74,17 @@ const OF_SCOPE: [Diagnosed; 8] = [
     ),
     (b"fn main(): int { return x; }", 403, 24),
     (b"fn main(): int { { var x: int = 1; } return x; }", 403, 44),
+    (
+        b"fn main(): int { if true { var x: int = 1; } else if x == 1 { } return 0; }",
+        403,
+        53,
+    ),
+    (b"fn main(): int { print x; return 0; }", 403, 23),
     (b"fn main(): int { return f[]; }", 404, 24),
     (b"fn main(): bool { }", 406, 3),
 ];
 
-const OF_TYPING: [Diagnosed; 10] = [
+const OF_TYPING: [Diagnosed; 14] = [
     (b"fn main(): int { return 1 + true; }", 501, 26),
     (
         b"fn main(): int { var b: bool = true; var a: int = 1; return a + (b = 1); }",
@@ -89,10 +115,22 @@ const OF_TYPING: [Diagnosed; 10] = [
         506,
         35,
     ),
+    (b"fn main(): int { print true; return 0; }", 507, 17),
+    (
+        b"fn f(): bool { print 1; } fn main(): int { print f[]; return 0; }",
+        507,
+        43,
+    ),
+    (b"fn main(): int { print true + 1; return 0; }", 501, 28),
+    (
+        b"fn main(): int { if true { } else if 1 { } return 0; }",
+        504,
+        34,
+    ),
 ];
 
 // Sources without a diagnostic up to types, and how many rows they have.
-const ACCEPTED: [(&[u8], usize); 4] = [
+const ACCEPTED: [(&[u8], usize); 6] = [
     (b"fn main(): int { return 8-3-2; }", 9),
     (b"fn main(): int { }", 3),
     (
@@ -100,6 +138,8 @@ const ACCEPTED: [(&[u8], usize); 4] = [
         20,
     ),
     (b"fn main(): int { if true { } else { } return 0; }", 9),
+    (b"fn main(): int { if true { } else if true { } }", 9),
+    (b"fn main(): int { print 5; print -6; return 7; }", 10),
 ];
 
 // Why a source is refused, if it is.

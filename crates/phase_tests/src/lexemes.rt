@@ -92,10 +92,19 @@ const LONG_PIECES: [Lexeme; 3] = [
     (Terminal::Digits, 33, 1),
 ];
 
+const PRINTS: [Lexeme; 6] = [
+    (Terminal::PrintWord, 0, 5),
+    (Terminal::MinusSign, 6, 1),
+    (Terminal::Digits, 7, 1),
+    (Terminal::Semicolon, 8, 1),
+    (Terminal::Ident, 10, 6),
+    (Terminal::Ident, 17, 4),
+];
+
 const SEVEN: [Lexeme; 1] = [(Terminal::Digits, 0, 1)];
 
 // Texts and their tokens.
-const TEXTS: [(&[u8], &[Lexeme]); 8] = [
+const TEXTS: [(&[u8], &[Lexeme]); 9] = [
     (b"fn main(): int { return 7; } // end", &FUNCTION),
     (b"1<=2 == true", &COMPARED),
     (b"", &[]),
@@ -104,6 +113,7 @@ const TEXTS: [(&[u8], &[Lexeme]); 8] = [
     (b"2147483647", &[(Terminal::Digits, 0, 10)]),
     (b"a // one two three\nfour_and_five 6", &LONG_PIECES),
     (EVERY_CLASS, &CLASSES),
+    (b"print -6; print6 prin", &PRINTS),
 ];
 
 // Texts, and the codes and places of their diagnostics.

@@ -7,8 +7,15 @@ use std::test::*;
 const NUMBERS: &[u16] = &[
     1, 3, 4, 8, 9, 7, 9, 11, 12, 15, 21, 24, 27, 30, 33, 37, 42, 43, 49, 39, 36, 32, 29, 26, 23,
     11, 12, 20, 21, 24, 27, 30, 33, 37, 42, 43, 49, 39, 36, 32, 29, 26, 22, 21, 24, 27, 30, 33, 37,
-    42, 44, 39, 36, 32, 29, 26, 23, 13, 12, 16, 11, 12, 18, 21, 24, 27, 30, 33, 37, 42, 44, 39, 34,
-    37, 42, 43, 49, 38, 42, 44, 39, 36, 32, 29, 26, 23, 13, 13, 2,
+    42, 44, 39, 36, 32, 29, 26, 23, 13, 12, 16, 54, 11, 12, 18, 21, 24, 27, 30, 33, 37, 42, 44, 39,
+    34, 37, 42, 43, 49, 38, 42, 44, 39, 36, 32, 29, 26, 23, 13, 13, 2,
+];
+
+// fn f(var a: bool): int { if a { } else if a { } else { } }
+const CHAIN: &[u16] = &[
+    1, 3, 4, 8, 10, 7, 9, 11, 12, 15, 21, 24, 27, 30, 33, 37, 42, 43, 49, 39, 36, 32, 29, 26, 23,
+    11, 13, 12, 16, 55, 21, 24, 27, 30, 33, 37, 42, 43, 49, 39, 36, 32, 29, 26, 23, 11, 13, 12, 16,
+    54, 11, 13, 13, 2,
 ];
 
 // What a piece is, in numbers.
@@ -44,10 +51,14 @@ fn are_pieces(pieces: &[Piece], due: &[[u32; 4]]) -> bool {
     true
 }
 
-// The places from one up to another, how many nonterminals are open and how many owned tokens are read before them, and the pieces of that stretch.
-const STRETCHES: &[(usize, usize, u32, u32, &[[u32; 4]])] = &[
+// A left parse, the places from one up to another, how many nonterminals are open and how many owned tokens are read before them, and the pieces
+// of that stretch.
+type Stretch = (&'static [u16], usize, usize, u32, u32, &'static [[u32; 4]]);
+
+const STRETCHES: &[Stretch] = &[
     // rows that stay open
     (
+        NUMBERS,
         0,
         12,
         1,
@@ -62,6 +73,7 @@ const STRETCHES: &[(usize, usize, u32, u32, &[[u32; 4]])] = &[
     ),
     // an operand before its operator
     (
+        NUMBERS,
         36,
         48,
         10,
@@ -70,6 +82,7 @@ const STRETCHES: &[(usize, usize, u32, u32, &[[u32; 4]])] = &[
     ),
     // an else that takes the place of an if
     (
+        NUMBERS,
         48,
         60,
         9,
@@ -77,32 +90,52 @@ const STRETCHES: &[(usize, usize, u32, u32, &[[u32; 4]])] = &[
         &[[0, 9, 0, 0], [1, 1, 1, 50], [0, 2, 1, 0], [3, 3, 59, 9]],
     ),
     // rows that are all closed
-    (72, 84, 8, 13, &[[0, 8, 0, 0], [1, 4, 4, 72], [0, 6, 0, 0]]),
+    (
+        NUMBERS,
+        73,
+        85,
+        8,
+        13,
+        &[[0, 8, 0, 0], [1, 4, 4, 73], [0, 6, 0, 0]],
+    ),
+    // an if behind an else, which may be joined in its turn
+    (
+        CHAIN,
+        27,
+        31,
+        2,
+        6,
+        &[[0, 2, 1, 0], [3, 3, 28, 6], [2, 2, 0, 29]],
+    ),
+    // an else of which nothing tells what it joins
+    (CHAIN, 46, 50, 3, 10, &[[0, 2, 1, 0], [3, 3, 48, 10]]),
+    // a whole chain, all of which is closed where it ends
+    (
+        CHAIN,
+        9,
+        53,
+        3,
+        3,
+        &[[0, 3, 0, 0], [1, 7, 7, 28], [0, 2, 0, 0]],
+    ),
 ];
 
 // Whether a stretch is small, and has its pieces.
 fn has_pieces(
     alloc: Global,
-    from: usize,
-    to: usize,
-    level: u32,
-    read: u32,
-    due: &[[u32; 4]],
+    (numbers, from, to, level, read, due): Stretch,
 ) -> Result<bool, AllocError> {
     if from > to || to > 1000 || level > 1000 || read > 1000 {
         return Ok(false);
     }
-    let pieces = reduce_stretch(alloc, NUMBERS, from, to, level, read)?;
+    let pieces = reduce_stretch(alloc, numbers, from, to, level, read)?;
     Ok(are_pieces(&pieces, due))
 }
 
 #[test]
 fn stretches_are_few_pieces(rt: HostRuntime) -> Result<(), Fail> {
-    for &(from, to, level, read, due) in STRETCHES {
-        assert!(rt;
-            has_pieces(rt.alloc(), from, to, level, read, due)?,
-            "from {from}"
-        );
+    for &stretch in STRETCHES {
+        assert!(rt; has_pieces(rt.alloc(), stretch)?, "from {}", stretch.1);
     }
     Ok(())
 }

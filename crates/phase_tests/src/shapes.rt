@@ -182,12 +182,92 @@ const CALLS: Shaped = (
     &[11, 11, 3, 5, 5, 6, 10, 9, 9, 10, 11, 12, 12],
 );
 
-const SHAPES: [Shaped; 7] = [EMPTY, LEFT, PARENTHESES, TAILS, ELSES, ASSIGNMENTS, CALLS];
+// Each else joins the if before it, and the third part of that is the if behind the else.
+const CHAIN: Shaped = (
+    b"fn main(): int { if true { } else if false { } else if true { } else { } }",
+    &[
+        Kind::Truth(true),
+        Kind::Block,
+        Kind::Truth(false),
+        Kind::Block,
+        Kind::Truth(true),
+        Kind::Block,
+        Kind::Block,
+        Kind::IfElse,
+        Kind::IfElse,
+        Kind::IfElse,
+        Kind::Block,
+        Kind::Function(ValueType::Int),
+        Kind::Program,
+    ],
+    &[9, 9, 8, 8, 7, 7, 7, 8, 9, 10, 11, 12, 12],
+);
+
+// A chain that ends without an else, inside the block of another one.
+const CHAINS: Shaped = (
+    b"fn main(): int { if true { if false { } else if true { } } else if false { } print 1; }",
+    &[
+        Kind::Truth(true),
+        Kind::Truth(false),
+        Kind::Block,
+        Kind::Truth(true),
+        Kind::Block,
+        Kind::If,
+        Kind::IfElse,
+        Kind::Block,
+        Kind::Truth(false),
+        Kind::Block,
+        Kind::If,
+        Kind::IfElse,
+        Kind::Num(1),
+        Kind::Print,
+        Kind::Block,
+        Kind::Function(ValueType::Int),
+        Kind::Program,
+    ],
+    &[11, 6, 6, 5, 5, 6, 7, 11, 10, 10, 11, 14, 13, 14, 15, 16, 16],
+);
+
+const PRINTS: Shaped = (
+    b"fn main(): int { print 5; print -6; return 7; }",
+    &[
+        Kind::Num(5),
+        Kind::Print,
+        Kind::Num(6),
+        Kind::Unary(UnaryOp::Negate),
+        Kind::Print,
+        Kind::Num(7),
+        Kind::Return,
+        Kind::Block,
+        Kind::Function(ValueType::Int),
+        Kind::Program,
+    ],
+    &[1, 7, 3, 4, 7, 6, 7, 8, 9, 9],
+);
+
+const SHAPES: &[Shaped] = &[
+    EMPTY,
+    LEFT,
+    PARENTHESES,
+    TAILS,
+    ELSES,
+    ASSIGNMENTS,
+    CALLS,
+    CHAIN,
+    CHAINS,
+    PRINTS,
+];
 
 // A source, and the code and the token of its first fault of shape.
 type Misshapen = (&'static [u8], u16, u32);
 
-const FAULTS: [Misshapen; 6] = [
+const CHAIN_THAT_ENDED: Misshapen = (
+    b"fn main(): int { if true { } else if false { } else { } else { } }",
+    301,
+    19,
+);
+
+const FAULTS: &[Misshapen] = &[
     (
         b"fn main(): int { while false { } else { } return 0; }",
         301,
@@ -195,6 +275,22 @@ const FAULTS: [Misshapen; 6] = [
     ),
     (b"fn main(): int { else { } }", 301, 7),
     (b"fn main(): int { if true { } else { } else { } }", 301, 14),
+    (
+        b"fn main(): int { if true { } else { } else if true { } }",
+        301,
+        14,
+    ),
+    CHAIN_THAT_ENDED,
+    (
+        b"fn main(): int { if true { } else if true { } 1; else { } }",
+        301,
+        18,
+    ),
+    (
+        b"fn main(): int { else if true { } else { } else if true { } }",
+        301,
+        7,
+    ),
     (b"fn main(): int { 1 = 2; return 0; }", 302, 8),
     (b"fn main(): int { var x: int = 0; x + x = 2; }", 302, 17),
     (
@@ -208,10 +304,10 @@ const FAULTS: [Misshapen; 6] = [
 fn each_shape_has_its_rows(rt: HostRuntime) -> Result<(), Fail> {
     for plan in [(1, 1024), (4, 1)] {
         let crew = at(&rt, rt.alloc(), plan, &OpenGate)?;
-        for (source, kinds, parents) in SHAPES {
+        for &(source, kinds, parents) in SHAPES {
             expect_rows(&rt, &crew, source, kinds, parents)?;
         }
-        for (source, code, token) in FAULTS {
+        for &(source, code, token) in FAULTS {
             expect_fault(&rt, &crew, source, code, token)?;
         }
     }
@@ -223,7 +319,14 @@ fn one_shape_for_every_plan(rt: HostRuntime) -> Result<(), Fail> {
     for &plan in PLANS {
         let crew = at(&rt, rt.alloc(), plan, &OpenGate)?;
         expect_rows(&rt, &crew, LEFT.0, LEFT.1, LEFT.2)?;
-        expect_fault(&rt, &crew, FAULTS[0].0, FAULTS[0].1, FAULTS[0].2)?;
+        expect_rows(&rt, &crew, CHAINS.0, CHAINS.1, CHAINS.2)?;
+        expect_fault(
+            &rt,
+            &crew,
+            CHAIN_THAT_ENDED.0,
+            CHAIN_THAT_ENDED.1,
+            CHAIN_THAT_ENDED.2,
+        )?;
     }
     Ok(())
 }
@@ -280,6 +383,16 @@ const MANY_ARGUMENTS: Long = Long {
     rows: 20_005,
 };
 
+const ELSE_IFS: Long = Long {
+    beginning: b"fn main(): int { if true { }",
+    piece: b" else if false { }",
+    middle: b" else { }",
+    closing: b"",
+    end: b" }",
+    count: 20_000,
+    rows: 60_007,
+};
+
 fn text_of(alloc: Global, long: &Long) -> Result<Vec<u8>, Fail> {
     let mut text = long.beginning.to_vec(alloc)?;
     for _ in 0..long.count {
@@ -309,6 +422,7 @@ fn deep_and_long_sources_have_rows(rt: HostRuntime) -> Result<(), Fail> {
         BLOCKS_IN_GREAT_DEPTH,
         ASSIGNMENTS_IN_A_LONG_CHAIN,
         MANY_ARGUMENTS,
+        ELSE_IFS,
     ] {
         let source = text_of(rt.alloc(), &long)?;
         assert_eq!(rt; count_rows(&crew, &source)?, Some(long.rows));

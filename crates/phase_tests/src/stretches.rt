@@ -130,6 +130,30 @@ const FAULTS: &[(&[Kind], &[u32], &[u32], usize, usize, u64)] = &[
         4,
         u64::MAX,
     ),
+    // the same where an if stands behind the else
+    (
+        &[Kind::Truth(true), Kind::Block, Kind::If, Kind::IfElse],
+        &[0, 1, 0, 0],
+        &[6, 7, 5, 4],
+        0,
+        4,
+        4 * 1024 + 301,
+    ),
+    (
+        &[
+            Kind::Truth(true),
+            Kind::Block,
+            Kind::Truth(true),
+            Kind::Block,
+            Kind::If,
+            Kind::IfElse,
+        ],
+        &[0, 1, 2, 3, 2, 0],
+        &[2, 3, 7, 8, 6, 1],
+        0,
+        6,
+        u64::MAX,
+    ),
     // what is assigned to a number, and to a name
     (
         &[Kind::Num(1), Kind::Num(2), Kind::Assign],

@@ -9,7 +9,7 @@ use std::thread::Threads;
 /// Bytes that a read or a write moves at a time.
 const STEP: usize = 1 << 20;
 
-/// Room for the image of any source, and more than any line needs.
+/// Room for the image of any source, and more than the lines of any run here need.
 const ROOM: usize = 1 << 21;
 
 /// The numbers of workers, each of which makes a plan with each size of chunks.

@@ -119,3 +119,30 @@ pub(crate) fn expect<R: Threads + Abort + Sync>(
     assert_eq!(rt; ended.notes.written(), notes);
     Ok(())
 }
+
+/// The words of a call, its input, its status, the result and the notes.
+pub(crate) type Row = (
+    &'static [&'static str],
+    &'static [u8],
+    Status,
+    &'static [u8],
+    &'static [u8],
+);
+
+/// Sees that the calls of these rows are answered so by this plan.
+pub(crate) fn expect_rows<R: Threads + Abort + Sync>(
+    rt: &R,
+    alloc: Global,
+    plan: &'static [&'static str],
+    rows: &[Row],
+) -> Result<(), AllocError> {
+    for &(words, source, status, out, notes) in rows {
+        let call = Call {
+            words,
+            plan,
+            source,
+        };
+        expect(rt, alloc, call, SOUND, (status, out, notes))?;
+    }
+    Ok(())
+}

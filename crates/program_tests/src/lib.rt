@@ -12,6 +12,8 @@ mod overlap;
 #[cfg(test)]
 mod plans;
 #[cfg(test)]
+mod prints;
+#[cfg(test)]
 mod tables;
 #[cfg(test)]
 mod words;

@@ -1,6 +1,6 @@
 // Calls whose results are the same for every plan.
 
-use crate::calls::{Call, SEVEN, SEVEN_FILE, SOUND, expect};
+use crate::calls::{Call, Row, SEVEN, SEVEN_FILE, SOUND, expect, expect_rows};
 use elf_file::write;
 use pareas_core::Status;
 use std::alloc::{AllocError, Global};
@@ -21,40 +21,19 @@ const PLANS: &[&[&str]] = &[
     &["--workers", "64", "--chunk", "65536"],
 ];
 
-/// The words of a call that has a result, its input and the result.
-type ResultRow = (&'static [&'static str], &'static [u8], &'static [u8]);
-
-/// Sees that the calls have their results by this plan.
-fn expect_results<R: Threads + Abort + Sync>(
+/// Sees that the calls of these rows are answered so by each plan.
+pub(crate) fn expect_for_every_plan<R: Threads + Abort + Sync>(
     rt: &R,
     alloc: Global,
-    plan: &'static [&'static str],
-    rows: &[ResultRow],
-) -> Result<(), AllocError> {
-    for &(words, source, out) in rows {
-        let call = Call {
-            words,
-            plan,
-            source,
-        };
-        expect(rt, alloc, call, SOUND, (Status::Done, out, b""))?;
-    }
-    Ok(())
-}
-
-/// Sees that the calls have their results by each plan.
-fn expect_for_every_plan<R: Threads + Abort + Sync>(
-    rt: &R,
-    alloc: Global,
-    rows: &[ResultRow],
+    rows: &[Row],
 ) -> Result<(), AllocError> {
     for &plan in PLANS {
-        expect_results(rt, alloc, plan, rows)?;
+        expect_rows(rt, alloc, plan, rows)?;
     }
     Ok(())
 }
 
-const BUILDS: &[ResultRow] = &[(&["build"], SEVEN, &SEVEN_FILE)];
+const BUILDS: &[Row] = &[(&["build"], SEVEN, Status::Done, &SEVEN_FILE, b"")];
 
 #[test]
 fn builds_the_same_for_every_plan(rt: HostRuntime) -> Result<(), Fail> {
@@ -77,51 +56,127 @@ const COUNTING_WORDS: &[u32] = &[
     0x0080006F, 0x00000513, 0x00C12083, 0x00812483, 0x00412903, 0x01010113, 0x00008067,
 ];
 
-#[test]
-fn builds_the_words_for_every_plan(rt: HostRuntime) -> Result<(), Fail> {
-    let file = write(rt.alloc(), COUNTING_WORDS)?;
+/// `fn main(): int { print 5; print -6; return 7; }`, and a chain whose second if is taken.
+pub(crate) const PRINTING: &[u8] = b"fn main(): int { print 5; print -6; return 7; }";
+
+pub(crate) const CHOOSING: &[u8] =
+    b"fn main(): int { var x: int = 2; if x == 1 { return 1; } else if x == 2 { return 5; } else { return 9; } }";
+
+/// The words of `PRINTING`: three of the stub and 21 of `main`, four for the first print and five for the second.
+const PRINTING_WORDS: &[u32] = &[
+    0x00C000EF, 0x05D00893, 0x00000073, 0xFF010113, 0x00012023, 0x00112623, 0x00912423, 0x00500493,
+    0x00048513, 0x7FF00893, 0x00000073, 0x00600493, 0x409004B3, 0x00048513, 0x7FF00893, 0x00000073,
+    0x00700493, 0x00048513, 0x0080006F, 0x00000513, 0x00C12083, 0x00812483, 0x01010113, 0x00008067,
+];
+
+/// The words of `CHOOSING`: three of the stub, seven up to the chain, twice ten for an if with its block and the jump behind it, three for the
+/// last block, and six at the end.
+const CHOOSING_WORDS: &[u32] = &[
+    0x00C000EF, 0x05D00893, 0x00000073, 0xFF010113, 0x00012023, 0x00112623, 0x00912423, 0x01212223,
+    0x00200493, 0x00912023, 0x00012483, 0x00100913, 0x412484B3, 0x0014B493, 0x00049463, 0x0140006F,
+    0x00100493, 0x00048513, 0x0400006F, 0x0380006F, 0x00012483, 0x00200913, 0x412484B3, 0x0014B493,
+    0x00049463, 0x0140006F, 0x00500493, 0x00048513, 0x0180006F, 0x0100006F, 0x00900493, 0x00048513,
+    0x0080006F, 0x00000513, 0x00C12083, 0x00812483, 0x00412903, 0x01010113, 0x00008067,
+];
+
+/// Programs and their words.
+const WORDS: &[(&[u8], &[u32])] = &[
+    (COUNTING, COUNTING_WORDS),
+    (PRINTING, PRINTING_WORDS),
+    (CHOOSING, CHOOSING_WORDS),
+];
+
+/// Sees that a program has these words by each plan.
+fn expect_words<R: Threads + Abort + Sync>(
+    rt: &R,
+    alloc: Global,
+    source: &'static [u8],
+    words: &[u32],
+) -> Result<(), AllocError> {
+    assert!(rt; words.len() < 100);
+    let file = write(alloc, words)?;
     for &plan in PLANS {
         let call = Call {
             words: &["build"],
             plan,
-            source: COUNTING,
+            source,
         };
-        expect(&rt, rt.alloc(), call, SOUND, (Status::Done, &file, b""))?;
+        expect(rt, alloc, call, SOUND, (Status::Done, &file, b""))?;
+    }
+    Ok(())
+}
+
+#[test]
+fn builds_the_words_for_every_plan(rt: HostRuntime) -> Result<(), Fail> {
+    for &(source, words) in WORDS {
+        expect_words(&rt, rt.alloc(), source, words)?;
     }
     Ok(())
 }
 
 /// Programs of one expression or some statements.
-const PROGRAMS: &[ResultRow] = &[
-    (&["run"], b"fn main(): int { return 8-3-2; }", b"exit 3\n"),
+const PROGRAMS: &[Row] = &[
+    (
+        &["run"],
+        b"fn main(): int { return 8-3-2; }",
+        Status::Done,
+        b"exit 3\n",
+        b"",
+    ),
     (
         &["run"],
         b"fn main(): int { return (-2147483647-1)/-1; }",
+        Status::Done,
         b"exit -2147483648\n",
+        b"",
     ),
-    (&["run"], b"fn main(): int { return 1/0; }", b"exit -1\n"),
-    (&["run"], b"fn main(): int { return 5%0; }", b"exit 5\n"),
-    (&["run"], b"fn main(): int { return 1<<33; }", b"exit 2\n"),
+    (
+        &["run"],
+        b"fn main(): int { return 1/0; }",
+        Status::Done,
+        b"exit -1\n",
+        b"",
+    ),
+    (
+        &["run"],
+        b"fn main(): int { return 5%0; }",
+        Status::Done,
+        b"exit 5\n",
+        b"",
+    ),
+    (
+        &["run"],
+        b"fn main(): int { return 1<<33; }",
+        Status::Done,
+        b"exit 2\n",
+        b"",
+    ),
     (
         &["run"],
         b"fn main(): int { var x: int = 1; return x + (x = 3); }",
+        Status::Done,
         b"exit 4\n",
+        b"",
     ),
     (
         &["run"],
         b"fn le(): bool { return 1<=2 == true; } fn main(): int { if le[] { return 1; } return 0; }",
+        Status::Done,
         b"exit 1\n",
+        b"",
     ),
     (
         &["run"],
         b"fn f(var a: int): int { return a; } fn main(): int { return 1+(2+(3+(4+(5+(6+(7+(8+(9+(10+(11+(12+(13+f[14])))))))))))); }",
+        Status::Done,
         b"exit 105\n",
+        b"",
     ),
 ];
 
 #[test]
 fn runs_programs_of_the_whole_language(rt: HostRuntime) -> Result<(), Fail> {
-    expect_results(&rt, rt.alloc(), &[], PROGRAMS)?;
+    expect_rows(&rt, rt.alloc(), &[], PROGRAMS)?;
     Ok(())
 }
 
@@ -131,16 +186,20 @@ fn runs_the_same_for_every_plan(rt: HostRuntime) -> Result<(), Fail> {
     Ok(())
 }
 
-const DRILLS: &[ResultRow] = &[
+const DRILLS: &[Row] = &[
     (
         &["drill", "--seed", "1", "--functions", "1"],
         b"",
+        Status::Done,
         b"source 144\ntokens 61\nimage 296\nexit 650\n",
+        b"",
     ),
     (
         &["drill", "--seed", "1", "--functions", "2"],
         b"",
+        Status::Done,
         b"source 261\ntokens 111\nimage 448\nexit 30379224\n",
+        b"",
     ),
 ];
 

@@ -1,7 +1,7 @@
 // Grammar files, and words.
 
 use crate::calls::{Call, SOUND, expect};
-use grammar_file::G1;
+use grammar_file::G2;
 use pareas_core::Status;
 use std::alloc::{AllocError, Global};
 use std::process::Abort;
@@ -36,8 +36,8 @@ fn expect_table<R: Threads + Abort + Sync>(
 /// Grammar files, and the sizes of their tables.
 const SIZES: &[(&[u8], &[u8])] = &[
     (
-        G1,
-        b"terminals 29\nnonterminals 26\nproductions 53\nentries 237\n",
+        G2,
+        b"terminals 30\nnonterminals 27\nproductions 56\nentries 248\n",
     ),
     (
         b"S -> a S b\nS ->\n",

@@ -1,21 +1,20 @@
 -- The rows that the recursion on a tree closes are those that the tree gives, but for tokens that are settled later.
 use Rattle.std.proofs.Common.{◌≡◌, ℕ, ◌+◌, ◌-◌, ◌≤◌, Bool, true, false, List, [], ◌∷◌, ◌++◌, length, map, drop, get_or, refl, sym, ap, ◌∙◌, subst, arith, length-append, append_assoc}
 use Rattle.std.specs.Prelude.{if◌then◌else◌, ◌&&◌, ◌||◌}
-use Rattle.std.proofs.lemmas.List.{append-nil, map-append, length-map}
+use Rattle.std.proofs.lemmas.List.{append-nil, map-append}
 use Rattle.source_meaning.specs.Lexemes.{Token}
-use Rattle.source_meaning.specs.Grammar.{Nonterminal, Symbol, t, n, Production, right, Tree, Forest, done, tree, left_parse, forest_parse, stmts_some}
+use Rattle.source_meaning.specs.Grammar.{Nonterminal, Symbol, t, n, Production, right, Tree, Forest, done, tree, left_parse, forest_parse, stmts_some, stmt_else}
 use Rattle.row_laws.specs.Marks.{Mark}
-use Rattle.row_laws.specs.Emitted.{Given, Told, is_else, is_early, ends, first_token, filled, tells, part, parts}
+use Rattle.row_laws.specs.Emitted.{Wait, Given, Told, is_else, is_early, ends, first_token, filled, tells, part, parts}
 use Rattle.row_laws.specs.Levels.{width}
-use Rattle.row_laws.specs.Joins.{is_list, is_cell}
+use Rattle.row_laws.specs.Joins.{is_cell}
 use Rattle.row_laws.specs.Owned.{owned, reads_count, cut, tree_reads, forest_reads}
 use Rattle.row_laws.specs.Shifts.{is_call}
 use Rattle.row_walk.specs.Walk.{Made, last_size}
 use Rattle.row_walk.proofs.Recursion.{Taken, alone, reads_in, tree_made, forest_made}
-use Rattle.row_walk.proofs.Runs.{is_taken}
 use Rattle.row_walk.proofs.Sizes.{msize, msize_both, is_operand, is_tail, sized}
 use Rattle.row_walk.proofs.Reading.{past_parse, past_reads}
-use Rattle.row_walk.proofs.OwnRows.{bare, mark_at, marks}
+use Rattle.row_walk.proofs.OwnRows.{bare, marks, made_many, AreMet}
 
 -- what is known of the rows below: there are none, or the last one has all of them in its subtree
 pub data Seen : Type 0 where
@@ -51,15 +50,12 @@ fit_parts false false ok more e = (refl, (λ g. absurd (cc)), e)
 
 -- what a production tells its parts
 abbrev pub teller : (early : Bool) (at before : ℕ) → List Mark → Bool → Told
-teller early at before below z = (at, if early && z then before + length below + 1 else length below, false)
+teller early at before below z = (at, if early && z then before + length below + 1 else length below, false, [])
 
-pub tells_as : (p : Production) (y : Given (right p)) (at before : ℕ) (joins : Bool) (below : List Mark) (z : Bool) → is_cell p ≡ false → tells p y at before joins below z ≡ teller (is_early p) (first_token (right p) y at) before below z
-tells_as stmts_some y at before joins below z e = absurd (cc)
-tells_as p y at before joins below z e = refl
-
-taken_none : (b : Bool) → (if b then false else false) ≡ false
-taken_none true = refl
-taken_none false = refl
+pub tells_as : (p : Production) (y : Given (right p)) (at before : ℕ) (joins : Bool) (waiting : List Wait) (below : List Mark) (z : Bool) → is_cell p ≡ false → is_else p ≡ false → tells p y at before joins waiting below z ≡ teller (is_early p) (first_token (right p) y at) before below z
+tells_as stmts_some y at before joins waiting below z e g = absurd (cc)
+tells_as stmt_else y at before joins waiting below z e g = absurd (cc)
+tells_as p y at before joins waiting below z e g = refl
 
 msize_bare : (z : ℕ) (xs : List Mark) → msize z (map bare xs) ≡ msize z xs
 msize_bare z [] = refl
@@ -68,13 +64,13 @@ msize_bare z (x ∷ xs) = msize_bare x.size xs
 module _ (d : Token) (ps : List Production) (ts : List Token) where
   abbrev pub TreeGives : {a : Nonterminal} → Tree a → Type 0
   TreeGives {a} r =
-      (i k : ℕ) (w : Taken) (at before : ℕ) (ms : List Made) (qs : List Production) (rest : List (List Token)) →
+      (i k : ℕ) (w : Taken) (waiting : List Wait) (at before : ℕ) (ms : List Made) (qs : List Production) (rest : List (List Token)) →
       drop i ps ≡ left_parse r ++ qs →
       cut (map reads_count (left_parse r ++ qs)) (drop k (owned ts)) ≡ tree_reads r ++ rest →
       (is_tail a ≡ true → (last_size ms ≡ before) × (before ≤ length ms)) →
       (is_call a ≡ true → (get_or (owned ts) (k - 1) d).number ≡ at) →
-      (is_taken a (part r).root w.0 ≡ true → (w.1 + before ≡ length ms) × ((get_or (owned ts) w.2 d).number ≡ at)) →
-      marks d ps ts (tree_made r i k w ms) ≡ marks d ps ts ms ++ map bare ((part r).rows at before w.0)
+      AreMet d ps ts (length ms) w.1 waiting →
+      marks d ps ts (tree_made r i k w ms) ≡ marks d ps ts ms ++ map bare ((part r).rows at before w.0 waiting)
 
   abbrev pub TreesGive : {ss : List Symbol} → Forest ss → Type 0
   TreesGive {ss} f =
@@ -101,10 +97,7 @@ module _ (d : Token) (ps : List Production) (ts : List Token) where
       last_msize vs ∙ ap (λ x. msize 0 x) e ∙ msize_both 0 (marks d ps ts us) (map bare l)
       ∙ msize_bare (msize 0 (marks d ps ts us)) l ∙ ap (λ (z : ℕ). msize z l) (sym (last_msize us))
 
-  given_length : (us vs : List Made) (l : List Mark) → marks d ps ts vs ≡ marks d ps ts us ++ map bare l → length vs ≡ length us + length l
-  given_length us vs l e = sym (length-map vs (mark_at d ps ts)) ∙ ap length e ∙ length-append (marks d ps ts us) (map bare l) ∙ (λ j. length-map us (mark_at d ps ts) j + length-map l bare j)
-
-  given_more : (ms us vs : List Made) (l h : List Mark) → marks d ps ts us ≡ marks d ps ts ms ++ map bare l → marks d ps ts vs ≡ marks d ps ts us ++ map bare h → marks d ps ts vs ≡ marks d ps ts ms ++ map bare (l ++ h)
+  pub given_more : (ms us vs : List Made) (l h : List Mark) → marks d ps ts us ≡ marks d ps ts ms ++ map bare l → marks d ps ts vs ≡ marks d ps ts us ++ map bare h → marks d ps ts vs ≡ marks d ps ts ms ++ map bare (l ++ h)
   given_more ms us vs l h e g =
       g ∙ ap (λ x. x ++ map bare h) e ∙ append_assoc (marks d ps ts ms) (map bare l) (map bare h)
       ∙ ap (λ x. marks d ps ts ms ++ x) (sym (map-append bare l h))
@@ -131,7 +124,7 @@ module _ (d : Token) (ps : List Production) (ts : List Token) where
     told = if early && ends ss then before + length below + 1 else length below
 
     abbrev here : List Mark
-    here = (part r).rows at told false
+    here = (part r).rows at told false []
 
     hd' : drop i ps ≡ left_parse r ++ (forest_parse f ++ qs)
     hd' = hd ∙ append_assoc (left_parse r) (forest_parse f) qs
@@ -143,7 +136,7 @@ module _ (d : Token) (ps : List Production) (ts : List Token) where
     part_gives : (xs : List Made) → (is_tail a ≡ true → (last_size xs ≡ told) × (told ≤ length xs)) → marks d ps ts (tree_made r i k (tell (ends ss)) xs) ≡ marks d ps ts xs ++ map bare here
     part_gives xs tail =
         ap (λ (w : Taken). marks d ps ts (tree_made r i k w xs)) (ht (ends ss))
-        ∙ hr i k alone at told xs (forest_parse f ++ qs) (forest_reads f ++ rest) hd' hc' tail (λ e. absurd (let g = fit_is.0 in cc)) (λ e. absurd (let g : is_taken a (part r).root false ≡ false = taken_none (is_list a || is_else (part r).root) in cc))
+        ∙ hr i k alone [] at told xs (forest_parse f ++ qs) (forest_reads f ++ rest) hd' hc' tail (λ e. absurd (let g = fit_is.0 in cc)) tt
 
     abbrev made_if : Bool → List Made
     made_if b = if b then tree_made r i k (tell (ends ss)) (mine' us) else forest_made early mine' tell f (i + width r) (k + reads_in (left_parse r)) (tree_made r i k (tell (ends ss)) us)
@@ -157,7 +150,7 @@ module _ (d : Token) (ps : List Production) (ts : List Token) where
         let made = ho us below hm in
         let two : early && ends ss ≡ true = (λ j. e j && g j) in
         let known : told ≡ before + length below + 1 = ap (λ (b : Bool). if b then before + length below + 1 else length below) two in
-        let many : length (mine' us) ≡ length ms + length (below ++ row below) = given_length ms (mine' us) (below ++ row below) made in
+        let many : length (mine' us) ≡ length ms + length (below ++ row below) = made_many d ps ts ms (mine' us) (below ++ row below) made in
         let one : length (row below) ≡ 1 = ap length q.1 in
         let last : last_size (mine' us) ≡ told = last_given ms (mine' us) (below ++ row below) made ∙ msize_both (last_size ms) below (row below) ∙ ap (λ l. msize (msize (last_size ms) below) l) q.1 ∙ q.2 ∙ sym known in
         given_more ms (mine' us) (made_if true) (below ++ row below) here made (part_gives (mine' us) (λ z. (last, (let x = hb e in let y = length-append below (row below) in omega arith))))
@@ -167,14 +160,14 @@ module _ (d : Token) (ps : List Production) (ts : List Token) where
     status fresh h tail xs e = by (is_operand a) refl
       where
         by : (b : Bool) → is_operand a ≡ b → Holds (if is_operand a then whole else lost) xs (below ++ here)
-        by true g = subst (λ (b : Bool). Holds (if b then whole else lost) xs (below ++ here)) (sym g) (last_given us xs here e ∙ (sized r).0 g at told false (last_size us) ∙ sym (ap (λ l. length (l ++ here)) h))
+        by true g = subst (λ (b : Bool). Holds (if b then whole else lost) xs (below ++ here)) (sym g) (last_given us xs here e ∙ (sized r).0 g at told false [] (last_size us) ∙ sym (ap (λ l. length (l ++ here)) h))
         by false g = subst (λ (b : Bool). Holds (if b then whole else lost) xs (below ++ here)) (sym g) tt
     status whole h tail xs e = by (is_tail a) refl
       where
         by : (b : Bool) → is_tail a ≡ b → Holds (if is_tail a then whole else lost) xs (below ++ here)
         by true g =
             subst (λ (b : Bool). Holds (if b then whole else lost) xs (below ++ here)) (sym g)
-            (last_given us xs here e ∙ ap (λ (z : ℕ). msize z here) (h ∙ sym (tail g)) ∙ (sized r).1 g at told false ∙ ap (λ (z : ℕ). z + length here) (tail g) ∙ sym (length-append below here))
+            (last_given us xs here e ∙ ap (λ (z : ℕ). msize z here) (h ∙ sym (tail g)) ∙ (sized r).1 g at told false [] ∙ ap (λ (z : ℕ). z + length here) (tail g) ∙ sym (length-append below here))
         by false g = subst (λ (b : Bool). Holds (if b then whole else lost) xs (below ++ here)) (sym g) tt
     status lost h tail xs e = tt
 
@@ -186,7 +179,7 @@ module _ (d : Token) (ps : List Production) (ts : List Token) where
     late_gives : early && ends ss ≡ false → marks d ps ts (made_if false) ≡ marks d ps ts ms ++ map bare (rows_if false)
     late_gives e =
         let known : told ≡ length below = ap (λ (b : Bool). if b then before + length below + 1 else length below) e in
-        let many : length us ≡ length ms + length below = given_length ms us below hm in
+        let many : length us ≡ length ms + length below = made_many d ps ts ms us below hm in
         let first = part_gives us
         (λ z.
         (whole_there st (or_false (is_whole st) (early && ends ss) e (fit_is.1 z)) hs ∙ sym known, omega arith)) in

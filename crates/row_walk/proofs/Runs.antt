@@ -1,36 +1,38 @@
 -- A walk over a tree leaves the rows below untouched, and closes those of the tree.
 use Rattle.std.proofs.Common.{◌≡◌, ℕ, suc, ◌+◌, ◌≤◌, Bool, true, false, List, [], ◌∷◌, ◌++◌, length, refl, sym, ap, ◌∙◌, arith, append_assoc, length-append}
-use Rattle.std.specs.Prelude.{if◌then◌else◌, ◌||◌}
+use Rattle.std.specs.Prelude.{if◌then◌else◌, ◌&&◌, ◌||◌}
 use Rattle.source_meaning.specs.declared.kinds.Terminal.{Terminal}
-use Rattle.source_meaning.specs.Grammar.{Leaf, Nonterminal, Symbol, t, n, Production, left, right, Tree, node, Forest, done, leaf, tree, left_parse, forest_parse, stmts_some, stmts_none, stmt_if, stmt_else}
-use Rattle.row_laws.specs.Emitted.{is_if, is_else, ends, part}
+use Rattle.source_meaning.specs.Grammar.{Leaf, Nonterminal, Symbol, t, n, Production, left, right, Tree, node, Forest, done, leaf, tree, left_parse, forest_parse, Statement, ElseBody, stmts_some, stmts_none, stmt_if, stmt_else, else_if}
+use Rattle.row_laws.specs.Emitted.{Part, is_if, is_else, is_open, ends, part}
 use Rattle.row_laws.specs.Levels.{kids, after, width}
 use Rattle.row_laws.specs.Operands.{is_statement}
 use Rattle.row_laws.specs.Joins.{is_list, first_is, starts_else}
-use Rattle.row_walk.specs.Walk.{Open, Made, Rows, cut, opened}
+use Rattle.row_walk.specs.Walk.{Open, Made, Rows, cut}
 use Rattle.row_walk.proofs.Cuts.{rows_of, Low, low_more, cut_low, run}
-use Rattle.row_walk.proofs.Recursion.{Taken, alone, reads_in, tree_made, forest_made, reads_both}
+use Rattle.row_walk.proofs.Recursion.{Taken, alone, left_by, reads_in, tree_made, forest_made, reads_both}
 
 -- ---- productions
 pub after_is : (s : ℕ) (p : Production) → after (suc s) p ≡ s + kids (right p)
 after_is s p = omega arith
 
-root_left : {a : Nonterminal} (r : Tree a) → left (part r).root ≡ a
-root_left (node p f) = refl
+-- where an if may stand
+abbrev pub has_if : Nonterminal → Bool
+has_if Statement = true
+has_if ElseBody = true
+has_if a = false
 
-if_left : (p : Production) → is_if p ≡ true → is_statement (left p) ≡ true
-if_left stmt_if e = refl
-if_left p e = absurd (cc)
+no_statement_there : (a : Nonterminal) → has_if a ≡ false → is_statement a ≡ true → ⊥
+no_statement_there Statement e g = cc
+no_statement_there a e g = cc
 
-pub if_root : {a : Nonterminal} (r : Tree a) → is_statement a ≡ false → is_if (part r).root ≡ true → ⊥
-if_root r e f =
-    let g : is_statement (left (part r).root) ≡ true = if_left (part r).root f in
-    let h : is_statement (left (part r).root) ≡ false = ap is_statement (root_left r) ∙ e in
-    cc
+open_by : (p : Production) (b : Bool) → has_if (left p) ≡ false → is_if p || (is_else p && b) ≡ false
+open_by stmt_if b e = absurd (cc)
+open_by else_if b e = absurd (cc)
+open_by stmt_else b e = absurd (cc)
+open_by p b e = refl
 
-pub no_both : (p : Production) → is_else p ≡ true → is_if p ≡ false
-no_both stmt_else e = refl
-no_both p e = absurd (cc)
+pub root_open : {a : Nonterminal} (r : Tree a) → has_if a ≡ false → is_open (part r) ≡ false
+root_open (node p f) e = open_by p (is_if (part (node p f)).second) e
 
 pub root_first : {a : Nonterminal} (r : Tree a) (g : Production → Bool) (qs : List Production) → first_is g (left_parse r ++ qs) ≡ g (part r).root
 root_first (node p f) g qs = refl
@@ -56,41 +58,52 @@ more_kids (n a ∷ ss) e = omega arith
 abbrev pub has_statement : List Symbol → Bool
 has_statement [] = false
 has_statement (t k ∷ ss) = has_statement ss
-has_statement (n a ∷ ss) = if is_statement a then true else has_statement ss
+has_statement (n a ∷ ss) = if has_if a then true else has_statement ss
 
 not_first : (b c : Bool) → (if b then true else c) ≡ false → (b ≡ false) × (c ≡ false)
 not_first true c e = absurd (cc)
 not_first false c e = (refl, e)
 
+-- ---- rows that are open
+abbrev pub at_bound : ℕ → Open → Open
+at_bound b o = record { bound = b; begin = o.begin; place = o.place; own = o.own; joinable = o.joinable }
+
+-- rows that are closed at one bound, on those that are open
+abbrev pub stood : ℕ → List Open → List Open → List Open
+stood b [] os = os
+stood b (w ∷ ws) os = at_bound b w ∷ stood b ws os
+
+abbrev pub ArePlain : List Open → Type 0
+ArePlain [] = Unit {0}
+ArePlain (o ∷ os) = (o.joinable ≡ false) × ArePlain os
+
+-- an else joins the first one alone
+abbrev pub AreWaiting : List Open → Type 0
+AreWaiting [] = Unit {0}
+AreWaiting (o ∷ os) = (o.joinable ≡ true) × ArePlain os
+
 -- ---- what a walk over a tree does
-abbrev pub put : Bool → Open → List Open → List Open
-put b o os = if b then o ∷ os else os
-
--- an if is open below a list or an else that takes it
-abbrev pub is_taken : Nonterminal → Production → Bool → Bool
-is_taken a p b = if is_list a || is_else p then b else false
-
--- an if stays open before an else
-abbrev pub is_left : Production → Bool → Bool
-is_left p b = if is_if p then b else false
-
--- what is known of the if that is open below
-abbrev pub IsWaiting : ℕ → Taken → Open → Type 0
-IsWaiting b w o = (o.bound ≡ b) × (o.joinable ≡ true) × (o.begin ≡ w.1) × (o.own ≡ w.2)
-
 abbrev pub waits_at : Nonterminal → ℕ → ℕ
 waits_at a s = if is_list a then suc s else s
 
+-- whether what stands first is an else, which takes the rows that wait
+abbrev pub takes_else : Nonterminal → Part → Bool
+takes_else a r = is_else (if is_list a then r.second else r.root)
+
+-- the rows that are left where an else joins
+abbrev pub left_of : Production → (i k : ℕ) → Taken → List Made → List Open
+left_of p i k w ms = if w.0 then left_by p i k w.1 ms else []
+
 abbrev pub TreeRuns : {a : Nonterminal} → Tree a → Type 0
 TreeRuns {a} r =
-    (s i k : ℕ) (w : Taken) (o : Open) (os : List Open) (ms : List Made) (qs : List Production) →
+    (s i k : ℕ) (w : Taken) (os : List Open) (ms : List Made) (qs : List Production) →
     Low (suc s) os →
     (is_statement a ≡ true → Low s os) →
-    (is_if (part r).root ≡ true → w.0 ≡ starts_else qs) →
-    (w.0 ≡ true → is_list a ≡ true → is_else (part r).second ≡ true) →
-    (is_taken a (part r).root w.0 ≡ true → IsWaiting (waits_at a s) w o) →
-    run (left_parse r ++ qs) i (suc s) k (rows_of (put (is_taken a (part r).root w.0) o os) ms)
-    ≡ run qs (i + width r) s (k + reads_in (left_parse r)) (cut s (starts_else qs) (put (is_left (part r).root w.0) (opened stmt_if i (suc s) k ms) os) (tree_made r i k w ms))
+    w.0 ≡ is_open (part r) && starts_else qs →
+    (takes_else a (part r) ≡ false → w.1 ≡ []) →
+    AreWaiting w.1 →
+    run (left_parse r ++ qs) i (suc s) k (rows_of (stood (waits_at a s) w.1 os) ms)
+    ≡ run qs (i + width r) s (k + reads_in (left_parse r)) (cut s (starts_else qs) (stood s (left_of (part r).root i k w ms) os) (tree_made r i k w ms))
 
 abbrev pub TreesRun : {ss : List Symbol} → Forest ss → Type 0
 TreesRun {ss} f =
@@ -107,19 +120,10 @@ TreesRun {ss} f =
     ≡ run qs (i + length (forest_parse f)) s (k + reads_in (forest_parse f)) (cut s (starts_else qs) us (forest_made early own tell f i k ms))
 
 -- a part that is told nothing
-taken_none : (b : Bool) → (if b then false else false) ≡ false
-taken_none true = refl
-taken_none false = refl
-
-pub child_runs : {a : Nonterminal} (r : Tree a) → TreeRuns r → is_statement a ≡ false → (s i k : ℕ) (w : Taken) (os : List Open) (ms : List Made) (qs : List Production) → w ≡ alone → Low (suc s) os →
+pub child_runs : {a : Nonterminal} (r : Tree a) → TreeRuns r → has_if a ≡ false → (s i k : ℕ) (w : Taken) (os : List Open) (ms : List Made) (qs : List Production) → w ≡ alone → Low (suc s) os →
     run (left_parse r ++ qs) i (suc s) k (rows_of os ms) ≡ run qs (i + width r) s (k + reads_in (left_parse r)) (cut s (starts_else qs) os (tree_made r i k w ms))
 child_runs {a} r h e s i k w os ms qs is low =
-    let o : Open = record { bound = 0; begin = 0; place = 0; own = 0; joinable = false } in
-    let x : is_taken a (part r).root false ≡ false = taken_none (is_list a || is_else (part r).root) in
-    let y : is_left (part r).root false ≡ false = taken_none (is_if (part r).root) in
-    ap (λ (b : Bool). run (left_parse r ++ qs) i (suc s) k (rows_of (put b o os) ms)) (sym x)
-    ∙ h s i k alone o os ms qs low (λ g. absurd (cc)) (λ g. absurd (if_root r e g)) (λ g. absurd (cc)) (λ g. absurd (cc))
-    ∙ ap (λ (b : Bool). run qs (i + width r) s (k + reads_in (left_parse r)) (cut s (starts_else qs) (put b (opened stmt_if i (suc s) k ms) os) (tree_made r i k alone ms))) y
+    h s i k alone os ms qs low (λ g. absurd (no_statement_there a e g)) (sym (ap (λ (b : Bool). b && starts_else qs) (root_open r e))) (λ g. refl) tt
     ∙ ap (λ (z : Taken). run qs (i + width r) s (k + reads_in (left_parse r)) (cut s (starts_else qs) os (tree_made r i k z ms))) (sym is)
 
 -- ---- the parts of a production, of which none is a statement
@@ -134,7 +138,7 @@ leaf_runs l f h = h
 
 module _ {a : Nonterminal} {ss : List Symbol} (r : Tree a) (f : Forest ss) (hr : TreeRuns r) (hf : TreesRun f) where
   -- a part whose rows stand on those that are open
-  first_runs : (s i k : ℕ) (w : Taken) (os : List Open) (ms : List Made) (qs : List Production) → is_statement a ≡ false → w ≡ alone → Low (suc (s + kids ss)) os →
+  first_runs : (s i k : ℕ) (w : Taken) (os : List Open) (ms : List Made) (qs : List Production) → has_if a ≡ false → w ≡ alone → Low (suc (s + kids ss)) os →
       run ((left_parse r ++ forest_parse f) ++ qs) i (s + suc (kids ss)) k (rows_of os ms)
       ≡ run (forest_parse f ++ qs) (i + width r) (s + kids ss) (k + reads_in (left_parse r)) (cut (s + kids ss) (starts_else (forest_parse f ++ qs)) os (tree_made r i k w ms))
   first_runs s i k w os ms qs hs ht low =
@@ -149,7 +153,7 @@ module _ {a : Nonterminal} {ss : List Symbol} (r : Tree a) (f : Forest ss) (hr :
 
   pub tree_runs : TreesRun (tree r f)
   tree_runs false s i k os us ms qs own tell hs ht lu lf lt cf ct ce =
-      let split = not_first (is_statement a) (has_statement ss) hs in
+      let split = not_first (has_if a) (has_statement ss) hs in
       let all = (left_parse r ++ forest_parse f) ++ qs in
       let next = tree_made r i k (tell (ends ss)) ms in
       ap (λ (x : Rows). run all i (s + suc (kids ss)) k x) (cut_low (s + suc (kids ss)) (starts_else all) os ms (low_more (suc s) (s + suc (kids ss)) os (omega arith) (lf refl)))
@@ -158,8 +162,8 @@ module _ {a : Nonterminal} {ss : List Symbol} (r : Tree a) (f : Forest ss) (hr :
       ∙ numbers s i k qs (cut s (starts_else qs) us (forest_made false own tell f (i + width r) (k + reads_in (left_parse r)) next))
   tree_runs true s i k os us ms qs own tell hs ht lu lf lt cf ct ce = by (ends ss) refl
     where
-      split : (is_statement a ≡ false) × (has_statement ss ≡ false)
-      split = not_first (is_statement a) (has_statement ss) hs
+      split : (has_if a ≡ false) × (has_statement ss ≡ false)
+      split = not_first (has_if a) (has_statement ss) hs
 
       all : List Production
       all = (left_parse r ++ forest_parse f) ++ qs

@@ -41,14 +41,14 @@ some_marks r d =
 
 -- by what the laws on rows say
 module _ (cut_law : (r : Tree Prog) → cut (map reads_count (left_parse r)) (owned (leaves r)) ≡ tree_reads r)
-    (emitted_law : (r : Tree Prog) → node_marks (program_node (ast r)) ≡ (part r).rows 0 0 false ++ mark ProgramKind None (length ((part r).rows 0 0 false) + 1) ∷ [])
+    (emitted_law : (r : Tree Prog) → node_marks (program_node (ast r)) ≡ (part r).rows 0 0 false [] ++ mark ProgramKind None (length ((part r).rows 0 0 false []) + 1) ∷ [])
     (settle_law : (p : Source) → settled None (node_marks (program_node p)) ≡ node_marks (program_node p)) where
-  whole_settled : (r : Tree Prog) → settled None ((part r).rows 0 0 false ++ mark ProgramKind None (length ((part r).rows 0 0 false) + 1) ∷ []) ≡ node_marks (program_node (ast r))
+  whole_settled : (r : Tree Prog) → settled None ((part r).rows 0 0 false [] ++ mark ProgramKind None (length ((part r).rows 0 0 false []) + 1) ∷ []) ≡ node_marks (program_node (ast r))
   whole_settled r = ap (λ l. settled None l) (sym (emitted_law r)) ∙ settle_law (ast r)
 
-  pub walk_emitted : (r : Tree Prog) (d : Token) → settled None (map (mark_of d (left_parse r) (leaves r)) (made_by (left_parse r))) ≡ (part r).rows 0 0 false
+  pub walk_emitted : (r : Tree Prog) (d : Token) → settled None (map (mark_of d (left_parse r) (leaves r)) (made_by (left_parse r))) ≡ (part r).rows 0 0 false []
   walk_emitted r d =
-      let all = (part r).rows 0 0 false in
+      let all = (part r).rows 0 0 false [] in
       ap (λ l. settled None l) (program_given r d (cut_law r) ∙ sym (append-nil (map bare all)))
       ∙ settled_bare None all []
       ∙ ap (λ l. settled None l) (append-nil all)
@@ -56,7 +56,7 @@ module _ (cut_law : (r : Tree Prog) → cut (map reads_count (left_parse r)) (ow
 
   pub walk_settled : (r : Tree Prog) (d : Token) → settled None (walk_marks d (left_parse r) (leaves r)) ≡ node_marks (program_node (ast r))
   walk_settled r d =
-      let all = (part r).rows 0 0 false in
+      let all = (part r).rows 0 0 false [] in
       let made = made_by (left_parse r) in
       let given = program_given r d (cut_law r) in
       let many : length made ≡ length all = sym (length-map made (mark_of d (left_parse r) (leaves r))) ∙ ap length given ∙ length-map all bare in

@@ -1,6 +1,6 @@
 // Laws on the walk, each the contract of a function that does nothing.
 
-ghost use Rattle.std.specs.Prelude.{◌≡◌, ℕ, suc, ◌-◌, ◌^◌, ◌<◌, fold, min, false, None, length, map, if◌then◌else◌};
+ghost use Rattle.std.specs.Prelude.{◌≡◌, ℕ, suc, ◌-◌, ◌^◌, ◌<◌, [], fold, min, false, None, length, map, if◌then◌else◌};
 ghost use Rattle.std.specs.List.{range_with_len};
 ghost use Rattle.source_meaning.specs.Lexemes.{Token};
 ghost use Rattle.source_meaning.specs.Grammar.{Tree, Prog, ast, leaves, left_parse};
@@ -18,7 +18,7 @@ use row_laws::{evals_settle, marks_tell_programs, tokens_are_cut};
 
 /// The rows that a walk over a left parse closes, in order, are those of the tree: from the productions and the tokens alone.
 pub fn walks_give_rows()
-    ensures emitted { (r : Tree Prog) (d : Token) → settled None (map (mark_of d (left_parse r) (leaves r)) (made_by (left_parse r))) ≡ (part r).rows 0 0 false }
+    ensures emitted { (r : Tree Prog) (d : Token) → settled None (map (mark_of d (left_parse r) (leaves r)) (made_by (left_parse r))) ≡ (part r).rows 0 0 false [] }
     ensures rows { (r : Tree Prog) (d : Token) → post (ast r) ≡ map (row_by_lists (walk_marks d (left_parse r) (leaves r))) (range_with_len 0 (length (walk_marks d (left_parse r) (leaves r)))) }
     ensures faults { (r : Tree Prog) (d : Token)
         → ((i : ℕ) → i < length (walk_marks d (left_parse r) (leaves r)) → number_or (settled_at (walk_marks d (left_parse r) (leaves r)) i) < 2 ^ 32)

@@ -1,4 +1,4 @@
-//! Runs the example programs that standard input names, one a line, and prints how each ends; those in a folder `refused` are to be built.
+//! Runs the example programs that standard input names, one a line, and prints what each writes; those in a folder `refused` are to be built.
 //! Those in the folder `worked` are compiled under nine plans too, and the last line counts those that came to one answer under all.
 #![tactic(auto)]
 

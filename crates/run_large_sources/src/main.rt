@@ -166,6 +166,16 @@ const SOURCES: &[Row] = &[
         &[Trial::Run],
     ),
     (
+        "a chain of 1,000 else-ifs",
+        Source::ElseIfs(1000),
+        &[Trial::Build, Trial::Run, Trial::Compare],
+    ),
+    (
+        "a chain of 10,000 else-ifs",
+        Source::ElseIfs(10_000),
+        &[Trial::Build, Trial::Run],
+    ),
+    (
         "a variable declared anew in 400 blocks",
         Source::Blocks {
             before: b"{ var x: int = x + 1; y = x;",

@@ -37,6 +37,8 @@ pub(crate) enum Source {
     Names(u32),
     /// A call of a function without parameters with so many arguments.
     Arguments(u32),
+    /// A chain of so many else-ifs, of which the last one is taken, and prints its number.
+    ElseIfs(u32),
 }
 
 impl Source {
@@ -62,6 +64,7 @@ impl Source {
             Source::CallsInARow(count) => calls_in_a_row(alloc, count),
             Source::Names(count) => names(alloc, count),
             Source::Arguments(count) => arguments(alloc, count),
+            Source::ElseIfs(count) => else_ifs(alloc, count),
         }
     }
 }
@@ -167,5 +170,19 @@ fn arguments(alloc: Global, count: u32) -> Result<Vec<u8>, AllocError> {
     let mut text = b"fn f(): int { return 0; } fn main(): int { return f[0".to_vec(alloc)?;
     repeat(&mut text, b", 0", count.saturating_sub(1))?;
     text.extend_from_slice(b"]; }")?;
+    Ok(text)
+}
+
+fn else_ifs(alloc: Global, count: u32) -> Result<Vec<u8>, AllocError> {
+    let beginning = format!(in alloc;
+        "fn main(): int {{ var x: int = {count}; if x == 0 {{ print 0; }}"
+    )?;
+    let mut text = beginning.as_bytes().to_vec(alloc)?;
+    for number in 0..count {
+        let next = u64::from(number) + 1;
+        let branch = format!(in alloc; " else if x == {next} {{ print {next}; }}")?;
+        text.extend_from_slice(branch.as_bytes())?;
+    }
+    text.extend_from_slice(b" else { print -1; } return x; }")?;
     Ok(text)
 }

@@ -40,7 +40,8 @@ fn is_owned(terminal: Terminal) -> bool
         | Terminal::Unop
         | Terminal::Digits
         | Terminal::TrueWord
-        | Terminal::FalseWord => true,
+        | Terminal::FalseWord
+        | Terminal::PrintWord => true,
     }
 }
 

@@ -3,7 +3,7 @@ use Rattle.source_meaning.specs.Lexemes.{tokens, place_of}
 use Rattle.source_meaning.specs.Grammar.{grammar, terminal_number}
 use Rattle.grammar_file.specs.Derivation.{IsLeftParse}
 use Rattle.grammar_file.specs.SyntaxPlace.{IsSyntaxPlace}
-use Rattle.grammar_file.specs.declared.file.TheConstants.{G1}
+use Rattle.grammar_file.specs.declared.file.TheConstants.{G2}
 use Rattle.glue_summary.specs.Parsing.{IsFaultBy}
 use Rattle.glue_summary.specs.declared.fault.ParseFault.TheVariants.{Syntax}
 use Rattle.ast_rows.specs.TokenRows.{TokenRow}
@@ -18,7 +18,7 @@ word_of-requires-after_bounds g c = let h = rows_few c.args.source.now c.args.to
 pub returns-in-Ok-clause-ok : goal.returns-in-Ok-clause-ok
 returns-in-Ok-clause-ok g c =
     let text = c.args.source.now in
-    let well = c.spelled_grammars_are_well_formed.ensures G1.now grammar c.grammar_is_spelled.ensures in
+    let well = c.spelled_grammars_are_well_formed.ensures G2.now grammar c.grammar_is_spelled.ensures in
     let is = c.in-Ok.ensures.ok grammar c.requires.tables well c.requires.reduced in
     let word : c.as_slice.result.now ≡ map (λ t. terminal_number t.terminal) (tokens text) =
     c.as_slice.ensures.value ∙ (c.in_ok-word.ensures ∙ (ap (λ (rs : List TokenRow). map (λ r. terminal_number r.terminal) rs) c.requires.lexed.are ∙ terminals_of (tokens text))) in
@@ -28,7 +28,7 @@ returns-in-Ok-clause-ok g c =
 pub returns-in-Err-Syntax-clause-refused : goal.returns-in-Err-Syntax-clause-refused
 returns-in-Err-Syntax-clause-refused g c =
     let text = c.args.source.now in
-    let well = c.spelled_grammars_are_well_formed.ensures G1.now grammar c.grammar_is_spelled.ensures in
+    let well = c.spelled_grammars_are_well_formed.ensures G2.now grammar c.grammar_is_spelled.ensures in
     let faulty : IsFaultBy c.args.tables.now c.as_slice.result.now (Syntax c.in-Err-Syntax.at) = subst (IsFaultBy c.args.tables.now c.as_slice.result.now) c.in-Err-Syntax.field-0-is c.in-Err-Syntax.ensures.fault in
     let is = faulty grammar c.requires.tables well c.requires.reduced in
     let word : c.as_slice.result.now ≡ map (λ t. terminal_number t.terminal) (tokens text) =
