@@ -15,3 +15,4 @@ pub use phases::{lexed, named, parsed, shaped, typed};
 pub use places::place;
 pub use refusal::Refusal;
 pub use tables::language_tables;
+pub use words::terminal_number;

@@ -7,8 +7,8 @@ use par_passes::Passes;
 use source_meaning::Terminal;
 use std::alloc::AllocError;
 
-// The number of a terminal in the grammar.
-fn terminal_number(terminal: Terminal) -> u16
+/// The number of a terminal in the language's grammar.
+pub fn terminal_number(terminal: Terminal) -> u16
     ensures { result ≡ number_of_terminal terminal }
 {
     match terminal {

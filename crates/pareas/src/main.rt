@@ -2,6 +2,7 @@
 #![tactic(auto)]
 
 ghost use Rattle.std.specs.Prelude.{◌≡◌, ◌⊎◌};
+ghost use Rattle.std.specs.Io.KnownBytes.{Appends};
 ghost use Rattle.pareas_core.specs.declared.status.Status.TheVariants.{Usage, WriteFault};
 
 use chunk_seats::OpenGate;
@@ -16,7 +17,8 @@ const NOT_UTF8: &[u8] =
 
 /// Refuses words of which one isn't UTF-8.
 fn refuse_not_utf8<W: Write>(notes: &mut W) -> Status
-    ensures { (result ≡ Usage) ⊎ (result ≡ WriteFault) }
+    ensures status { (result ≡ Usage) ⊎ (result ≡ WriteFault) }
+    ensures written { result ≡ Usage → Appends (W.contents notes.old) (W.contents notes.new) NOT_UTF8.now }
 {
     match notes.write_all(NOT_UTF8) {
         Ok(()) => Status::Usage,

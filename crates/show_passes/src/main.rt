@@ -7,7 +7,6 @@ mod code;
 mod page;
 mod pairs;
 mod rows;
-mod words;
 
 use bytes::{show_chunks, show_tokens};
 use chunk_seats::{OpenGate, Plan, Workers};

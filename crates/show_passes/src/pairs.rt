@@ -1,7 +1,7 @@
 //! The pairs of tokens with what they close and open, by themselves and by chunks, and the left parse.
 
 use crate::page::Page;
-use crate::words::terminal_number;
+use front_end::terminal_number;
 use glue_summary::{Mark, PieceTables, ended, marks_of_chunk};
 use grammar_file::{G2, Grammar, Symbol};
 use llp_tables::Tables;

@@ -40,7 +40,7 @@ pub(crate) fn show_meanings(page: &mut Page, analysis: &Analysis) -> Result<(), 
         }
         page.end()?;
     }
-    page.put(b"main is row ")?;
+    page.put(b"the row of main: ")?;
     page.row(analysis.names.main(), 0)?;
     page.end()
 }

@@ -7,8 +7,8 @@ use std::alloc::{AllocError, AllocFailed};
 /// Why a parse tree is no syntax tree.
 #[derive(Clone, Copy, PartialEq, Eq, Debug)]
 pub enum ShapeFault {
-    /// The first fault of shape: 301 an else that no if stands right before, 302 an assignment whose left side is no name, 303 a ninth
-    /// parameter.
+    /// The first fault of shape: 301 an else or else if that no if or else if stands right before, 302 an assignment whose left side is
+    /// no name, 303 a ninth parameter.
     Diagnostic {
         /// 301 to 303.
         code: u16,

@@ -152,8 +152,8 @@ fn answer(columns: Columns, ends: &[usize], found: Found) -> Result<Rows, ShapeF
 }
 
 /// The rows of the syntax tree of a text, from its tokens and its left parse: `post` of the tree where it has no fault of shape, else
-/// its earliest fault: 301 an else that no if stands right before, 302 an assignment whose left side is no name, 303 a ninth parameter, each
-/// at a token. The same for every plan, and the only other refusal is that memory is out.
+/// its earliest fault: 301 an else or else if that no if or else if stands right before, 302 an assignment whose left side is no name, 303 a ninth
+/// parameter, each at a token. The same for every plan, and the only other refusal is that memory is out.
 pub fn rows(
     crew: &impl Passes,
     text: &[u8],
