@@ -1,5 +1,6 @@
 mod Lists
 mod Claiming
+mod Dealing
 mod Looking
 mod Running
 mod Tables

@@ -1,5 +1,5 @@
 -- Whole runs of a board are schedules of the core, and an event of one part leaves the other.
-use Rattle.std.proofs.Common.{◌≡◌, ℕ, zero, suc, List, [], ◌∷◌, ◌++◌, length, map, set, Bool, true, false, Option, refl, sym, ap, ◌∙◌, subst}
+use Rattle.std.proofs.Common.{◌≡◌, ℕ, zero, suc, List, [], ◌∷◌, ◌++◌, length, map, set, Bool, true, false, Option, Some, None, refl, sym, ap, ◌∙◌, subst}
 use Rattle.std.specs.Prelude.{if◌then◌else◌, nat_lt, replicate}
 use Rattle.std.proofs.lemmas.List.{length-map}
 use Rattle.word_monoid.specs.Monoid.{Ops}
@@ -14,13 +14,14 @@ use Rattle.board_core.specs.State.{Seat, State, gone, fresh, seat_at, status_at}
 use Rattle.board_core.specs.Steps as core
 use Rattle.board_core.specs.Sound.{IsTrueOf, status_of}
 use Rattle.board_core.specs.Schedules.{start, is_lawful, does, play, play_all, after}
-use Rattle.board_steps.specs.Parts.{ClaimTable, StatusTable, at_least_one, word_of, claim_view, claim_part, look_view, status_part, IsStatusPart}
-use Rattle.board_steps.specs.Events.{seen, IsClaimEvent, IsStatusEvent}
-use Rattle.board_steps.specs.Running.{RunsClaim, RunsDone, RunsClaimSplit, RunsClaimJoin, RunsShow, RunsSeal, RunsLook, RunsStatusSplit, RunsStatusJoin}
-use Rattle.board_steps.specs.Runs.{ClaimRun, claim_opened, claim_drawn, claim_done, claim_split, claim_joined, StatusRun, status_opened, status_shown, status_sealed, status_looked, status_split, status_joined}
-use Rattle.board_steps.specs.Runs.{AreLawful, IsClaimSchedule, IsStatusSchedule}
+use Rattle.board_steps.specs.Parts.{ClaimTable, DealTable, StatusTable, at_least_one, word_of, claim_view, claim_part, look_view, status_part, IsDealPart, IsStatusPart}
+use Rattle.board_steps.specs.Events.{seen, IsClaimEvent, IsDealEvent, IsStatusEvent}
+use Rattle.board_steps.specs.Running.{RunsClaim, RunsDone, RunsClaimSplit, RunsClaimJoin, RunsDeal, RunsDealSplit, RunsDealJoin, RunsShow, RunsSeal, RunsLook, RunsStatusSplit, RunsStatusJoin}
+use Rattle.board_steps.specs.Runs.{ClaimRun, claim_opened, claim_drawn, claim_done, claim_split, claim_joined, DealRun, deal_opened, deal_drawn, deal_split, deal_joined, StatusRun, status_opened, status_shown, status_sealed, status_looked, status_split, status_joined}
+use Rattle.board_steps.specs.Runs.{AreLawful, IsClaimSchedule, IsDealSchedule, IsStatusSchedule}
 use Rattle.board_steps.proofs.Lists.{same_map}
 use Rattle.board_steps.proofs.Claiming as claiming
+use Rattle.board_steps.proofs.Dealing as dealing
 use Rattle.board_steps.proofs.Looking as looking
 
 module _ {I : Type 0} (ops : Ops I) (sums : List I) where
@@ -103,6 +104,34 @@ module _ {I : Type 0} (ops : Ops I) (sums : List I) where
     claim_runs _ (claim_done s t a c run r) = claim_done_more s t a c (claim_runs s run) r
     claim_runs _ (claim_split s t a n number run r) = claim_split_more s t a n number (claim_runs s run) r
     claim_runs _ (claim_joined s t a b run r) = claim_joined_more s t a b (claim_runs s run) r
+
+    module _ {T : Type 0} where
+      deal_more : (es : List Event) (e : Event) (r : Reply I) (t : DealTable T) → AreLawful ops sums (start ops sums seats) es → IsDealEvent ops sums (state es) e r t → IsDealSchedule ops sums seats t
+      deal_more es e r t h step = record {
+        events = es ++ e ∷ [];
+        lawful = lawful_snoc es (start ops sums seats) e h step.lawful;
+        is = subst (λ (x : State I). IsDealPart x t) (sym (snoc es (start ops sums seats) e)) step.leads;
+      }
+
+      -- what is in the hand is done first
+      deal_drawn_more : (s t : DealTable T) (a : ℕ) (hand answer : Option ℕ) → IsDealSchedule ops sums seats s → RunsDeal (length sums) a hand s answer t → IsDealSchedule ops sums seats t
+      deal_drawn_more s t a None answer so r = deal_more so.events (Claim a) (Drew answer) t so.lawful (dealing.deals ops T sums (state so.events) a None answer s t so.is r).1
+      deal_drawn_more s t a (Some n) answer so r =
+          let steps = dealing.deals ops T sums (state so.events) a (Some n) answer s t so.is r in
+          deal_more (so.events ++ Done a n ∷ []) (Claim a) (Drew answer) t (lawful_snoc so.events (start ops sums seats) (Done a n) so.lawful steps.0.0)
+          (subst (λ (x : State I). IsDealEvent ops sums x (Claim a) (Drew answer) t) (sym (snoc so.events (start ops sums seats) (Done a n))) steps.1)
+
+      deal_split_more : (s t : DealTable T) (a n number : ℕ) → IsDealSchedule ops sums seats s → RunsDealSplit a n s number t → IsDealSchedule ops sums seats t
+      deal_split_more s t a n number so r = deal_more so.events (Split a n) (NewSeat number) t so.lawful (dealing.splits ops T sums (state so.events) a n number s t so.is r)
+
+      deal_joined_more : (s t : DealTable T) (a b : ℕ) → IsDealSchedule ops sums seats s → RunsDealJoin a b s t → IsDealSchedule ops sums seats t
+      deal_joined_more s t a b so r = deal_more so.events (Join a b) Did t so.lawful (dealing.joins ops T sums (state so.events) a b s t so.is r)
+
+      pub deal_runs : (items : List T) → length items ≡ length sums → (s : DealTable T) → DealRun items seats s → IsDealSchedule ops sums seats s
+      deal_runs items many _ deal_opened = record { events = []; lawful = tt; is = record { words = refl; views = refl } }
+      deal_runs items many _ (deal_drawn s t a hand answer run r) = deal_drawn_more s t a hand answer (deal_runs items many s run) (subst (λ (k : ℕ). RunsDeal k a hand s answer t) many r)
+      deal_runs items many _ (deal_split s t a n number run r) = deal_split_more s t a n number (deal_runs items many s run) r
+      deal_runs items many _ (deal_joined s t a b run r) = deal_joined_more s t a b (deal_runs items many s run) r
 
     status_more : (es : List Event) (e : Event) (r : Reply I) (t : StatusTable) → AreLawful ops sums (start ops sums seats) es → IsStatusEvent ops sums (state es) e r t → IsStatusSchedule ops sums seats t
     status_more es e r t h step = record {

@@ -1,20 +1,26 @@
 -- Steps of the boards' tables are what their calls are said to do.
-use Rattle.std.proofs.Common.{◌≡◌, ℕ, zero, suc, ◌+◌, ◌*◌, ◌%◌, ◌<◌, ◌≤◌, ⊎_elim, List, [], ◌∷◌, length, get_or, Bool, true, false, Some, None, slice_get, refl, sym, ap, ◌∙◌, arith}
-use Rattle.std.specs.Prelude.{nat_lt, if◌then◌else◌, MatchOption}
+use Rattle.std.proofs.Common.{◌≡◌, ℕ, zero, suc, ◌+◌, ◌*◌, ◌%◌, ◌<◌, ◌≤◌, ⊎_elim, List, [], ◌∷◌, length, get_or, set, Bool, true, false, Some, None, slice_get, refl, sym, ap, ◌∙◌, arith, lt_of_not-le}
+use Rattle.std.specs.Prelude.{min, nat_lt, if◌then◌else◌, MatchOption}
 use Rattle.std.proofs.lemmas.Bool.{ltb-true, ltb-false}
+use mathlib.Core.Logic.{dite}
+use native.Mathlib.Decide.{dec_le}
 use mathlib.Core.Option.{some, some-injective, some-ne-none}
 use lib.ListN.{get_elem?}
 use Rattle.word_monoid.specs.Monoid.{Ops, IsMonoid}
 use Rattle.word_monoid.specs.Folds.{prefix_of}
 use Rattle.chunk_seats.specs.declared.views.ClaimView.{ClaimView}
 use Rattle.chunk_seats.specs.Tallies.{times}
+use Rattle.chunk_seats.specs.Dealing.{Dealt}
 use Rattle.chunk_seats.specs.Claims.{claiming, spending}
-use Rattle.chunk_seats.specs.Laws.Totals.{total_le, within_length}
+use Rattle.chunk_seats.specs.Laws.Totals.{total_le, total_part, within_length, times_snoc, one_same}
+use Rattle.deal_board.specs.Held.{settled}
+use Rattle.deal_board.specs.Rule.{claim_board, Carries}
 use Rattle.scan_lookback.specs.declared.views.LookView.{LookView}
 use Rattle.scan_lookback.specs.Laws.Lists.{get_there}
 use Rattle.scan_lookback.specs.Laws.Coded.{sum_coded, prefix_coded}
-use Rattle.board_steps.specs.Running.{moved}
-use Rattle.board_steps.specs.Ties.{DrawsAreClaims, FinishesAreDone, StoresAreShown, StoresAreSealed, LoadsAreLooks}
+use Rattle.board_steps.specs.Parts.{DealTable}
+use Rattle.board_steps.specs.Running.{moved, Holds}
+use Rattle.board_steps.specs.Ties.{DrawsAreClaims, FinishesAreDone, hand_of, DrawsAreDeals, StoresAreShown, StoresAreSealed, LoadsAreLooks}
 
 -- a view at a place, by the library's words
 seat_is : {V : Type 0} (xs : List V) (a : ℕ) (v : V) → get_elem? xs a ≡ some v → slice_get xs a ≡ Some v
@@ -64,6 +70,40 @@ finishes_are_done d a c s t rule r claimed not_done =
       claimed = claimed;
       not_done = not_done;
       after = r.after ∙ (λ i. moved s 1 (next i) a (r.played.1 i));
+    }
+
+-- what is in the hand was not put back before, since each number is claimed once
+holds : {T : Type 0} (v : ClaimView) (held : List (ℕ × T)) → Carries v held → ((n : ℕ) → times n v.claimed ≤ 1) → Holds (hand_of held) v
+holds v [] carries most = carries
+holds v (x ∷ []) carries most =
+    (carries, omega (arith, most x.0, ap (times x.0) carries, times_snoc x.0 v.done x.0, one_same x.0))
+holds v (x ∷ y ∷ xs) carries most = absurd carries
+
+once_each : (end count : ℕ) (n : ℕ) → (n < end → count ≡ 1) × (end ≤ n → count ≡ 0) → count ≤ 1
+once_each end count n h = dite (dec_le end n) (λ over. omega (arith, h.1 over)) (λ under. omega (arith, h.0 (lt_of_not-le under)))
+
+pub draws_are_deals : {T : Type 0} (good : ℕ → T → Type 0) → DrawsAreDeals good
+draws_are_deals {T} good items d a s t rule r carries unspent =
+    let n : ℕ = get_or s.words 0 0 in
+    let dealt : Dealt d (claim_board rule.counter s.views) = rule.dealt in
+    let found : n ≡ rule.counter = ap (λ (ws : List ℕ). get_or ws 0 0) rule.words in
+    let counted : rule.counter ≡ dealt.counter = ap (λ (ws : List ℕ). get_or ws 0 0) dealt.words in
+    let mine = dealt.each a r.old r.seat in
+    let room = dealt.room in let limits = dealt.small in
+    let next : (n + 1) % 18446744073709551616 ≡ n + 1 = omega arith in
+    let most : (m : ℕ) → times m r.old.claimed ≤ 1 = λ m.
+    omega (arith, total_part (λ (u : ClaimView). times m u.claimed) s.views a r.old r.seat, once_each (min dealt.counter d.chunks) _ m (dealt.once m)) in
+    record {
+      old = r.old;
+      new = r.new;
+      seat = seat_is s.views a r.old r.seat;
+      weighs = ⊎_elim (λ (e : r.old.share ≡ 0). omega arith) (λ (e : r.old.share ≡ r.old.weight). omega arith) mine.share_is;
+      unspent = unspent;
+      holds = holds r.old r.held carries most;
+      drawn = refl;
+      told = told_by (nat_lt n d.chunks) d.chunks n (settled r.old) r.new refl (λ h. (r.played.0 h).0) (λ h. (r.played.1 h).0);
+      words = ap (λ (x : DealTable T). x.words) r.after ∙ ap (λ (w : ℕ). set s.words 0 w) next;
+      views = ap (λ (x : DealTable T). x.views) r.after;
     }
 
 module _ {I : Type 0} (ops : Ops I) (laws : IsMonoid ops) where

@@ -9,7 +9,7 @@ use Rattle.board_core.specs.declared.steps.Status.{Status}
 use Rattle.board_core.specs.declared.steps.Status.TheVariants.{X, A, P}
 use Rattle.board_core.specs.State.{State}
 use Rattle.board_core.specs.Schedules.{is_lawful, reply, play}
-use Rattle.board_steps.specs.Parts.{ClaimTable, StatusTable, claim_part, IsStatusPart}
+use Rattle.board_steps.specs.Parts.{ClaimTable, DealTable, StatusTable, claim_part, IsDealPart, IsStatusPart}
 
 -- the status that the answer of `look` tells
 abbrev pub seen : {I : Type 0} → Look I → Status I
@@ -23,6 +23,12 @@ module _ {I : Type 0} (ops : Ops I) (sums : List I) where
     pub lawful : is_lawful ops sums c e ≡ true
     pub answers : reply ops sums c e ≡ r
     pub leads : t ≡ claim_part (play ops sums c e)
+
+  -- the same for a board that deals items
+  pub record IsDealEvent {T : Type 0} (c : State I) (e : Event) (r : Reply I) (t : DealTable T) : Type 0 where
+    pub lawful : is_lawful ops sums c e ≡ true
+    pub answers : reply ops sums c e ≡ r
+    pub leads : IsDealPart (play ops sums c e) t
 
   -- the same for the status board
   pub record IsStatusEvent (c : State I) (e : Event) (r : Reply I) (t : StatusTable) : Type 0 where

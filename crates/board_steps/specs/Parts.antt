@@ -15,6 +15,10 @@ use Rattle.board_core.specs.Sound.{IsTrueOf, status_of}
 abbrev pub ClaimTable : Type 0
 ClaimTable = table.State (Unit {0}) ClaimView
 
+-- those of a running board that deals items of a type, which has a slot for each item
+abbrev pub DealTable : Type 0 → Type 0
+DealTable T = table.State T ClaimView
+
 abbrev pub StatusTable : Type 0
 StatusTable = table.State (Unit {0}) LookView
 
@@ -26,6 +30,12 @@ module _ {I : Type 0} where
   -- the claim part of a state: the counter, the count of finished chunks, and of each seat what it claimed, has done and may claim with
   abbrev pub claim_part : State I → ClaimTable
   claim_part c = record { words = c.counter ∷ c.finished ∷ []; homes = []; views = map claim_view c.seats }
+
+  -- A board that deals items is this of a state: the counter, and of each seat what it drew, has put back and may draw with. An item that was
+  -- drawn is a chunk that was claimed, and one that was put back is a chunk that is done. The count of finished chunks is in no word of it.
+  pub record IsDealPart {T : Type 0} (c : State I) (s : DealTable T) : Type 0 where
+    pub words : s.words ≡ c.counter ∷ []
+    pub views : s.views ≡ map claim_view c.seats
 
 -- a table for no chunk has one word, which stays 0
 abbrev pub at_least_one : List ℕ → List ℕ

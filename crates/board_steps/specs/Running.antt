@@ -10,7 +10,8 @@ use Rattle.scan_lookback.specs.declared.views.LookView.{LookView}
 use Rattle.scan_lookback.specs.declared.look.Look.{Look}
 use Rattle.scan_lookback.specs.Views.{blank, showing, sealing, looking, leaving, uniting}
 use Rattle.scan_lookback.specs.Found.{IsSum, IsPrefix, Found}
-use Rattle.board_steps.specs.Parts.{ClaimTable, StatusTable}
+use Rattle.deal_board.specs.Held.{settled}
+use Rattle.board_steps.specs.Parts.{ClaimTable, DealTable, StatusTable}
 
 module _ {V : Type 0} where
   -- the seat of this number has this view
@@ -65,6 +66,51 @@ pub record RunsClaimJoin (a b : ℕ) (s t : ClaimTable) : Type 0 where
   pub weighs : 0 < old.weight
   pub that_weighs : 0 < other.weight
   pub after : t ≡ seated s (slice_set (slice_set s.views a (joining old other)) b (fresh 0))
+
+-- a seat with this in its hand has put back all that it drew, or all but this, which it drew last
+abbrev pub Holds : Option ℕ → ClaimView → Type 0
+Holds None v = v.done ≡ v.claimed
+Holds (Some n) v = (v.claimed ≡ v.done ++ n ∷ []) × (times n v.done ≡ 0)
+
+module _ {T : Type 0} where
+  -- `deal` by the seat a with this in its hand, where there are so many items: what is in the hand goes back, the counter is raised by one, and
+  -- the number found is the answer where it is an item's
+  pub record RunsDeal (items a : ℕ) (hand : Option ℕ) (s : DealTable T) (answer : Option ℕ) (t : DealTable T) : Type 0 where
+    pub old : ClaimView
+    pub new : ClaimView
+    pub seat : slice_get s.views a ≡ Some old
+    pub weighs : 0 < old.weight
+    pub unspent : 0 < old.share
+    pub holds : Holds hand old
+    pub drawn : answer ≡ (if nat_lt (slice_index s.words 0) items then Some (slice_index s.words 0) else None)
+    pub told : MatchOption answer (new ≡ spending (settled old)) (λ n. new ≡ claiming (settled old) n)
+    pub words : t.words ≡ slice_set s.words 0 (slice_index s.words 0 + 1)
+    pub views : t.views ≡ slice_set s.views a new
+
+  -- `split` of a seat whose hand is empty: the new seat has the next number
+  pub record RunsDealSplit (a n : ℕ) (s : DealTable T) (number : ℕ) (t : DealTable T) : Type 0 where
+    pub old : ClaimView
+    pub seat : slice_get s.views a ≡ Some old
+    pub weighs : 0 < old.weight
+    pub empty : Holds None old
+    pub some_part : 1 ≤ n
+    pub less : n < old.share
+    pub next : number ≡ length s.views
+    pub words : t.words ≡ s.words
+    pub views : t.views ≡ slice_set s.views a (giving old n) ++ fresh n ∷ []
+
+  -- `join` of seats whose hands are empty
+  pub record RunsDealJoin (a b : ℕ) (s t : DealTable T) : Type 0 where
+    pub old : ClaimView
+    pub other : ClaimView
+    pub seat : slice_get s.views a ≡ Some old
+    pub that : slice_get s.views b ≡ Some other
+    pub apart : ¬ (a ≡ b)
+    pub weighs : 0 < old.weight
+    pub that_weighs : 0 < other.weight
+    pub empty : Holds None old × Holds None other
+    pub words : t.words ≡ s.words
+    pub views : t.views ≡ slice_set (slice_set s.views a (joining old other)) b (fresh 0)
 
 module _ {I : Type 0} (ops : Ops I) (sums : List I) where
   -- `show` by the seat a: a store of the word that says the chunk's sum

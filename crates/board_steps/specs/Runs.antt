@@ -9,8 +9,8 @@ use Rattle.board_core.specs.declared.steps.Event.{Event}
 use Rattle.board_core.specs.State.{State}
 use Rattle.board_core.specs.Sound.{IsSound, ClaimsAll}
 use Rattle.board_core.specs.Schedules.{start, is_lawful, play, after}
-use Rattle.board_steps.specs.Parts.{ClaimTable, StatusTable, at_least_one, claim_part, IsStatusPart}
-use Rattle.board_steps.specs.Running.{RunsClaim, RunsDone, RunsClaimSplit, RunsClaimJoin, RunsShow, RunsSeal, RunsLook, RunsStatusSplit, RunsStatusJoin}
+use Rattle.board_steps.specs.Parts.{ClaimTable, DealTable, StatusTable, at_least_one, claim_part, IsDealPart, IsStatusPart}
+use Rattle.board_steps.specs.Running.{RunsClaim, RunsDone, RunsClaimSplit, RunsClaimJoin, RunsDeal, RunsDealSplit, RunsDealJoin, RunsShow, RunsSeal, RunsLook, RunsStatusSplit, RunsStatusJoin}
 
 -- what a claim board of so many chunks may have become, whose first seat stands for so many
 pub data ClaimRun (chunks seats : ℕ) : ClaimTable → Type 0 where
@@ -19,6 +19,13 @@ pub data ClaimRun (chunks seats : ℕ) : ClaimTable → Type 0 where
   claim_done : (s t : ClaimTable) (a c : ℕ) → ClaimRun chunks seats s → RunsDone a c s t → ClaimRun chunks seats t
   claim_split : (s t : ClaimTable) (a n number : ℕ) → ClaimRun chunks seats s → RunsClaimSplit a n s number t → ClaimRun chunks seats t
   claim_joined : (s t : ClaimTable) (a b : ℕ) → ClaimRun chunks seats s → RunsClaimJoin a b s t → ClaimRun chunks seats t
+
+-- what a board that deals these items may have become, whose first seat stands for so many
+pub data DealRun {T : Type 0} (items : List T) (seats : ℕ) : DealTable T → Type 0 where
+  deal_opened : DealRun items seats (opening (0 ∷ []) items (fresh seats))
+  deal_drawn : (s t : DealTable T) (a : ℕ) (hand answer : Option ℕ) → DealRun items seats s → RunsDeal (length items) a hand s answer t → DealRun items seats t
+  deal_split : (s t : DealTable T) (a n number : ℕ) → DealRun items seats s → RunsDealSplit a n s number t → DealRun items seats t
+  deal_joined : (s t : DealTable T) (a b : ℕ) → DealRun items seats s → RunsDealJoin a b s t → DealRun items seats t
 
 -- what a status board for these sums may have become
 pub data StatusRun {I : Type 0} (ops : Ops I) (sums : List I) (seats : ℕ) : StatusTable → Type 0 where
@@ -41,6 +48,12 @@ module _ {I : Type 0} (ops : Ops I) (sums : List I) where
     pub lawful : AreLawful (start ops sums seats) events
     pub is : s ≡ claim_part (after ops sums seats events)
 
+  -- the same for a board that deals items
+  pub record IsDealSchedule {T : Type 0} (seats : ℕ) (s : DealTable T) : Type 0 where
+    pub events : List Event
+    pub lawful : AreLawful (start ops sums seats) events
+    pub is : IsDealPart (after ops sums seats events) s
+
   -- the same for the status board
   pub record IsStatusSchedule (seats : ℕ) (s : StatusTable) : Type 0 where
     pub events : List Event
@@ -56,6 +69,16 @@ module _ {I : Type 0} (ops : Ops I) where
   ClaimRunsAreSound =
       (sums : List I) (seats : ℕ) (s : ClaimTable) → 0 < seats → ClaimRun (length sums) seats s
       → (c : State I) × IsSound ops sums seats c × ClaimsAll (length sums) seats c × (s ≡ claim_part c)
+
+  -- the same of a board that deals items, for every list of as many sums
+  abbrev pub DealRunsAreSchedules : Type 0 → Type 0
+  DealRunsAreSchedules T =
+      (sums : List I) (items : List T) (seats : ℕ) (s : DealTable T) → length items ≡ length sums → DealRun items seats s → IsDealSchedule ops sums seats s
+
+  abbrev pub DealRunsAreSound : Type 0 → Type 0
+  DealRunsAreSound T =
+      (sums : List I) (items : List T) (seats : ℕ) (s : DealTable T) → 0 < seats → length items ≡ length sums → DealRun items seats s
+      → (c : State I) × IsSound ops sums seats c × ClaimsAll (length sums) seats c × IsDealPart c s
 
   -- the same of the status board
   abbrev pub StatusRunsAreSchedules : Type 0

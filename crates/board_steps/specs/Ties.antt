@@ -1,5 +1,5 @@
 -- The statements of the laws.
-use Rattle.std.specs.Prelude.{◌≡◌, ℕ, ◌+◌, ◌*◌, ◌%◌, ◌<◌, ◌^◌, List, length, Option, Some, None, nat_lt, if◌then◌else◌, slice_index}
+use Rattle.std.specs.Prelude.{◌≡◌, ℕ, ◌+◌, ◌*◌, ◌%◌, ◌<◌, ◌^◌, List, [], ◌∷◌, length, Option, Some, None, nat_lt, if◌then◌else◌, slice_index}
 use mathlib.Core.Option.{none}
 use Rattle.atomic_table.specs.Table.{step}
 use Rattle.word_monoid.specs.Monoid.{Ops}
@@ -15,11 +15,13 @@ use Rattle.board_core.specs.declared.steps.Event.{Event}
 use Rattle.board_core.specs.declared.steps.Event.TheVariants.{Claim, Done, Show, Look as Looks, Seal, Split, Join}
 use Rattle.board_core.specs.declared.steps.Reply.TheVariants.{Drew, Looked, Did, NewSeat}
 use Rattle.board_core.specs.State.{State}
-use Rattle.board_core.specs.Schedules.{play}
-use Rattle.board_steps.specs.Parts.{ClaimTable, StatusTable, claim_part, status_part, IsStatusPart}
-use Rattle.board_steps.specs.Running.{RunsClaim, RunsDone, RunsClaimSplit, RunsClaimJoin, RunsShow, RunsSeal, RunsLook, RunsStatusSplit, RunsStatusJoin}
-use Rattle.board_steps.specs.Events.{seen, IsClaimEvent, IsStatusEvent}
-use Rattle.board_steps.specs.TableSteps.{IsStep}
+use Rattle.board_core.specs.Schedules.{play, play_all}
+use Rattle.deal_board.specs.Rule.{Served, Carries, Deals}
+use Rattle.board_steps.specs.Parts.{ClaimTable, DealTable, StatusTable, claim_part, status_part, IsDealPart, IsStatusPart}
+use Rattle.board_steps.specs.Running.{RunsClaim, RunsDone, RunsClaimSplit, RunsClaimJoin, RunsDeal, RunsDealSplit, RunsDealJoin, RunsShow, RunsSeal, RunsLook, RunsStatusSplit, RunsStatusJoin}
+use Rattle.board_steps.specs.Events.{seen, IsClaimEvent, IsDealEvent, IsStatusEvent}
+use Rattle.board_steps.specs.Runs.{AreLawful}
+use Rattle.board_steps.specs.TableSteps.{IsStep, IsSlotStep}
 
 -- what `claim` answers where it has drawn n
 abbrev pub chunk_drawn : ℕ → ℕ → Option ℕ
@@ -37,6 +39,23 @@ FinishesAreDone =
     (d : Deal) (a c : ℕ) (s t : ClaimTable) → Dealt d s
     → (r : IsStep a 1 ((slice_index s.words 1 + 1) % 2 ^ 64) (slice_index s.words 1) (Finishes c (step 0 1 1 0 none)) s t)
     → 0 < times c r.old.claimed → times c r.old.done ≡ 0 → RunsDone a c s t
+
+-- the number of what is in a seat's hand
+abbrev pub hand_of : {T : Type 0} → List (ℕ × T) → Option ℕ
+hand_of [] = None
+hand_of (x ∷ xs) = Some x.0
+
+-- The same of a board that deals items, which have to be good for their numbers when they come back.
+abbrev pub DrawsAreDeals : {T : Type 0} → (ℕ → T → Type 0) → Type 0
+DrawsAreDeals {T} good =
+    (items : List T) (d : Deal) (a : ℕ) (s t : DealTable T) → Served items good d s
+    → (r : IsSlotStep a 0 ((slice_index s.words 0 + 1) % 2 ^ 64) (slice_index s.words 0) (Deals items d.chunks (step (length items) 0 1 0 none)) s t)
+    → Carries r.old r.held → 0 < r.old.share → RunsDeal d.chunks a (hand_of r.held) s (chunk_drawn d.chunks (slice_index s.words 0)) t
+
+-- what a seat does first that draws with this in its hand
+abbrev pub putting_back : ℕ → Option ℕ → List Event
+putting_back a None = []
+putting_back a (Some n) = Done a n ∷ []
 
 module _ {I : Type 0} (ops : Ops I) where
   -- The same of a status board for sums of these codes.
@@ -77,6 +96,21 @@ module _ {I : Type 0} (ops : Ops I) where
   abbrev pub ClaimJoinsAreEvents : Type 0
   ClaimJoinsAreEvents =
       (sums : List I) (c : State I) (a b : ℕ) (t : ClaimTable) → RunsClaimJoin a b (claim_part c) t → IsClaimEvent ops sums c (Join a b) Did t
+
+  -- What `deal` does is the core's event that what was in the hand is done, if it held anything, and then a claim.
+  abbrev pub DealsAreEvents : Type 0 → Type 0
+  DealsAreEvents T =
+      (sums : List I) (c : State I) (a : ℕ) (hand answer : Option ℕ) (s t : DealTable T) → IsDealPart c s → RunsDeal (length sums) a hand s answer t
+      → AreLawful ops sums c (putting_back a hand) × IsDealEvent ops sums (play_all ops sums c (putting_back a hand)) (Claim a) (Drew answer) t
+
+  abbrev pub DealSplitsAreEvents : Type 0 → Type 0
+  DealSplitsAreEvents T =
+      (sums : List I) (c : State I) (a n number : ℕ) (s t : DealTable T) → IsDealPart c s → RunsDealSplit a n s number t
+      → IsDealEvent ops sums c (Split a n) (NewSeat number) t
+
+  abbrev pub DealJoinsAreEvents : Type 0 → Type 0
+  DealJoinsAreEvents T =
+      (sums : List I) (c : State I) (a b : ℕ) (s t : DealTable T) → IsDealPart c s → RunsDealJoin a b s t → IsDealEvent ops sums c (Join a b) Did t
 
   -- What the calls of a status board do are the core's events of these names.
   abbrev pub ShowsAreEvents : Type 0

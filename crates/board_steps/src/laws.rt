@@ -1,16 +1,18 @@
 // Each law is the contract of a function that does nothing.
 
-ghost use Rattle.std.specs.Prelude.{ℕ, List};
+ghost use Rattle.std.specs.Prelude.{ℕ, List, [], ◌∷◌};
 ghost use Rattle.board_core.specs.declared.steps.Event.TheVariants.{Claim, Done, Show, Look, Seal};
 ghost use Rattle.board_core.specs.State.{State};
-ghost use Rattle.board_steps.specs.Runs.{ClaimRun, ClaimRunsAreSchedules, ClaimRunsAreSound, StatusRunsAreSchedules, StatusRunsAreSound};
-ghost use Rattle.board_steps.specs.Worked.{split_and_claimed};
-ghost use Rattle.board_steps.specs.Ties.{DrawsAreClaims, FinishesAreDone, StoresAreShown, StoresAreSealed, LoadsAreLooks};
+ghost use Rattle.board_steps.specs.Runs.{ClaimRun, ClaimRunsAreSchedules, ClaimRunsAreSound, DealRun, DealRunsAreSchedules, DealRunsAreSound, StatusRunsAreSchedules, StatusRunsAreSound};
+ghost use Rattle.board_steps.specs.Worked.{dealt_twice, split_and_claimed};
+ghost use Rattle.board_steps.specs.Ties.{DrawsAreClaims, FinishesAreDone, DrawsAreDeals, StoresAreShown, StoresAreSealed, LoadsAreLooks};
 ghost use Rattle.board_steps.specs.Ties.{ClaimsAreEvents, DoneAreEvents, ClaimSplitsAreEvents, ClaimJoinsAreEvents};
+ghost use Rattle.board_steps.specs.Ties.{DealsAreEvents, DealSplitsAreEvents, DealJoinsAreEvents};
 ghost use Rattle.board_steps.specs.Ties.{ShowsAreEvents, SealsAreEvents, LooksAreEvents, StatusSplitsAreEvents, StatusJoinsAreEvents};
 ghost use Rattle.board_steps.specs.Ties.{LeavesStatuses, LeavesClaims};
 
 use board_core::every_schedule;
+use deal_board::Goods;
 use word_monoid::WordMonoid;
 
 /// Each step of the boards' tables, by the play that its operation has in the code, is what the board's call is said to do.
@@ -33,6 +35,18 @@ pub fn claim_board_steps<M: WordMonoid>(monoid: &M)
     ensures done { DoneAreEvents (M.ops monoid.now) }
     ensures splits { ClaimSplitsAreEvents (M.ops monoid.now) }
     ensures joins { ClaimJoinsAreEvents (M.ops monoid.now) }
+{
+    // The contract alone speaks of it.
+    let _ = monoid;
+}
+
+/// The same of a running board that deals items of a type T, and of its table, where N says which items are good for a number. A deal is
+/// two events where something is in the seat's hand, which is done first, and one where its hand is empty.
+pub fn deal_board_steps<M: WordMonoid, T, N: Goods<T>>(monoid: &M)
+    ensures draws { DrawsAreDeals N.good }
+    ensures deals { DealsAreEvents (M.ops monoid.now) T }
+    ensures splits { DealSplitsAreEvents (M.ops monoid.now) T }
+    ensures joins { DealJoinsAreEvents (M.ops monoid.now) T }
 {
     // The contract alone speaks of it.
     let _ = monoid;
@@ -72,6 +86,14 @@ pub fn claim_board_runs<M: WordMonoid>(monoid: &M)
     every_schedule(monoid);
 }
 
+/// The same of a board that deals items of a type T, for every list of as many sums as there are items.
+pub fn deal_board_runs<M: WordMonoid, T>(monoid: &M)
+    ensures schedule { DealRunsAreSchedules (M.ops monoid.now) T }
+    ensures sound { DealRunsAreSound (M.ops monoid.now) T }
+{
+    every_schedule(monoid);
+}
+
 /// The same of a status board and the status part.
 pub fn status_board_runs<M: WordMonoid>(monoid: &M)
     ensures schedule { StatusRunsAreSchedules (M.ops monoid.now) }
@@ -83,4 +105,9 @@ pub fn status_board_runs<M: WordMonoid>(monoid: &M)
 /// Where two seats share a board of two chunks, a split and a claim by the new seat are a run.
 pub fn worked_run()
     ensures { ClaimRun 2 2 split_and_claimed }
+{}
+
+/// A seat that draws both of two items, and puts the first back with the second draw, is a run.
+pub fn worked_deals()
+    ensures { DealRun (5 ∷ 6 ∷ []) 1 dealt_twice }
 {}

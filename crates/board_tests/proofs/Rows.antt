@@ -10,3 +10,6 @@ four_and_five = record { items = AllPass-from_list_all (λ x. nat_lt x (2 ^ 62))
 
 pub four_fives : Names count (5 ∷ 5 ∷ 5 ∷ 5 ∷ []) (5 ∷ 5 ∷ 5 ∷ 5 ∷ []) (5 ∷ 10 ∷ 15 ∷ 20 ∷ [])
 four_fives = record { items = AllPass-from_list_all (λ x. nat_lt x (2 ^ 62)) (5 ∷ 5 ∷ 5 ∷ 5 ∷ []) refl; sums_coded = refl; prefixes_coded = refl }
+
+pub three_chunks : Names count (4 ∷ 5 ∷ 5 ∷ []) (4 ∷ 5 ∷ 5 ∷ []) (4 ∷ 9 ∷ 14 ∷ [])
+three_chunks = record { items = AllPass-from_list_all (λ x. nat_lt x (2 ^ 62)) (4 ∷ 5 ∷ 5 ∷ []) refl; sums_coded = refl; prefixes_coded = refl }

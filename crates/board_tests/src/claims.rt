@@ -15,6 +15,27 @@ fn two_chunks_and_two_seats(rt: HostRuntime) -> Result<(), Fail> {
 }
 
 #[test]
+fn two_chunks_and_one_seat(rt: HostRuntime) -> Result<(), Fail> {
+    let (board, mut seat) = ClaimBoard::new(rt.alloc(), 2, 1)?;
+    assert_eq!(rt; board.claim(&mut seat), Some(0));
+    assert_eq!(rt; board.claim(&mut seat), Some(1));
+    assert_eq!(rt; board.claim(&mut seat), None);
+    let closed = board.close(seat);
+    assert_eq!(rt; (closed.counter, closed.finished), (3, 0));
+    Ok(())
+}
+
+#[test]
+fn the_least_of_three_keys(rt: HostRuntime) -> Result<(), Fail> {
+    let (word, mut seat) = LeastWord::new(rt.alloc(), 1)?;
+    word.offer(&mut seat, 7);
+    word.offer(&mut seat, 3);
+    word.offer(&mut seat, 9);
+    assert_eq!(rt; word.close(seat), 3);
+    Ok(())
+}
+
+#[test]
 fn the_least_key(rt: HostRuntime) -> Result<(), Fail> {
     let (word, mut old) = LeastWord::new(rt.alloc(), 2)?;
     let mut new = word.split(&mut old, 1);

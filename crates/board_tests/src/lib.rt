@@ -21,3 +21,5 @@ mod schedules;
 mod status_boards;
 #[cfg(test)]
 mod workers;
+#[cfg(test)]
+mod works;

@@ -66,12 +66,12 @@ fn each_worker_tells_its_number(rt: HostRuntime) -> Result<(), Fail> {
     Ok(())
 }
 
-// How often two workers meet in an example, and how often one gives up.
+// In how many passes of an example two workers meet, and in how many one draws alone.
 fn met<R: Threads + Abort + Sync>(rt: &R, alloc: Global, example: u32) -> Result<(u64, u64), Fail> {
     let gate = Meeting::new();
     let crew = at(rt, alloc, (2, 1), &gate)?;
     assert!(rt; is_right(&crew, example)?);
-    Ok(gate.told())
+    Ok(gate.counts())
 }
 
 #[test]

@@ -146,6 +146,7 @@ fn two_workers_meet(rt: HostRuntime) -> Result<(), Fail> {
     let gate = Meeting::new();
     let crew = at(&rt, rt.alloc(), (2, 1), &gate)?;
     expect(&rt, &crew, &CHAIN, &LAST, FORESTS[0].2)?;
-    assert!(rt; gate.is_held());
+    // the first jumps, two looks for open ones with a round between them, and the answers
+    assert_eq!(rt; gate.counts(), (5, 0));
     Ok(())
 }

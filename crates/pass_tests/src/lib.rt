@@ -11,3 +11,7 @@ mod jumping;
 mod minima;
 #[cfg(test)]
 mod passes;
+#[cfg(test)]
+mod together;
+#[cfg(test)]
+mod worked;

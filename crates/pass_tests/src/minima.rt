@@ -54,6 +54,7 @@ fn two_workers_meet(rt: HostRuntime) -> Result<(), Fail> {
     let gate = Meeting::new();
     let crew = at(&rt, rt.alloc(), (2, 1), &gate)?;
     ask(&rt, &crew, &VALUES, &QUESTIONS)?;
-    assert!(rt; gate.is_held());
+    // two pairs of values, and then twice a single pair
+    assert_eq!(rt; gate.counts(), (1, 2));
     Ok(())
 }

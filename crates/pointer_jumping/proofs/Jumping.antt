@@ -10,7 +10,7 @@ use Rattle.pointer_jumping.specs.Climbs.{AreUpward, AreWithin, Climbs}
 use Rattle.pointer_jumping.specs.Jumps.{Passes, IsJump, AreJumps, StandsBelow, jump_at, is_open, onwards, found_by}
 use Rattle.pointer_jumping.specs.declared.jump.Jump.{Jump}
 use Rattle.pointer_jumping.specs.declared.jump.Jump.TheVariants.{Root, Found, To}
-use Rattle.pointer_jumping.proofs.Ways.{climbs_on, passes_on, passes_rise, passes_below, climbs_all}
+use Rattle.pointer_jumping.proofs.Ways.{climbs_on, climbs_one, passes_on, passes_rise, passes_below, climbs_all}
 
 module _ (parents : List (Option ℕ)) (marks : List Bool) (upward : AreUpward parents) where
   pub stands_below : (n i : ℕ) (x : Jump) → i < length parents → IsJump parents marks n i x → StandsBelow (length parents) x
@@ -26,13 +26,13 @@ module _ (parents : List (Option ℕ)) (marks : List Bool) (upward : AreUpward p
 
     -- one jump onwards doubles the way
     jump_more : (i : ℕ) (x : Jump) → i < length parents → IsJump parents marks n i x → IsJump parents marks (n + n) i (onwards jumps x)
-    jump_more i Root lt is = is
-    jump_more i (Found p) lt is = is
+    jump_more i Root lt is = (is.0, (let few = is.1 in omega arith), is.2)
+    jump_more i (Found p) lt is = (is.0, (let few = is.1 in omega arith), is.2)
     jump_more i (To j) lt is = by (jump_at jumps j) (all.each j (passes_below parents marks upward is lt))
       where
         by : (y : Jump) → IsJump parents marks n j y → IsJump parents marks (n + n) i y
-        by Root c = let r = climbs_on parents marks is c.1 in (r.0, r.2)
-        by (Found p) c = let r = climbs_on parents marks is c.1 in (r.0, r.2)
+        by Root c = let r = climbs_on parents marks is c.2 in (r.0, (let few = c.1 in let e = r.1 in omega arith), r.2)
+        by (Found p) c = let r = climbs_on parents marks is c.2 in (r.0, (let few = c.1 in let e = r.1 in omega arith), r.2)
         by (To k) w = let r = passes_on parents marks is w in subst (λ (m : ℕ). Passes parents marks i m k) r.1 r.2
 
     pub jumps_more : AreJumps parents marks (n + n) (map (onwards jumps) jumps)
@@ -72,8 +72,17 @@ module _ (parents : List (Option ℕ)) (marks : List Bool) (upward : AreUpward p
         inside = let e = all.as_many in omega arith
 
         by : (x : Jump) → is_open x ≡ false → IsJump parents marks n i x → (d : ℕ) × Climbs parents marks i d (found_by x)
-        by Root o c = c
-        by (Found p) o c = c
+        by Root o c = (c.0, c.2)
+        by (Found p) o c = (c.0, c.2)
+        by (To j) o w = absurd (cc)
+
+    -- and no node passes more than n parents
+    pub within_all : ((i : ℕ) → i < length jumps → is_open (jump_at jumps i) ≡ false) → AreWithin parents marks n
+    within_all settled i k a lt way = by (jump_at jumps i) (settled i (let e = all.as_many in omega arith)) (all.each i lt)
+      where
+        by : (x : Jump) → is_open x ≡ false → IsJump parents marks n i x → k ≤ n
+        by Root o c = let few = c.1 in let e = (climbs_one parents marks way c.2).0 in omega arith
+        by (Found p) o c = let few = c.1 in let e = (climbs_one parents marks way c.2).0 in omega arith
         by (To j) o w = absurd (cc)
 
 -- what the parents alone tell

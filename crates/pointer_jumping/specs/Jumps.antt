@@ -1,5 +1,5 @@
 -- What is known of each node after some rounds of jumps.
-use Rattle.std.specs.Prelude.{◌≡◌, ℕ, suc, ◌<◌, Bool, true, false, List, length, Option, Some, None, slice_index_or}
+use Rattle.std.specs.Prelude.{◌≡◌, ℕ, suc, ◌<◌, ◌≤◌, Bool, true, false, List, length, Option, Some, None, slice_index_or}
 use Rattle.pointer_jumping.specs.Climbs.{parent_of, is_marked, Climbs}
 use Rattle.pointer_jumping.specs.declared.jump.Jump.{Jump}
 use Rattle.pointer_jumping.specs.declared.jump.Jump.TheVariants.{Root, Found, To}
@@ -9,10 +9,10 @@ pub data Passes (parents : List (Option ℕ)) (marks : List Bool) : (i n j : ℕ
   here : {i : ℕ} → Passes parents marks i 0 i
   up : {i p n j : ℕ} → parent_of parents i ≡ Some p → is_marked marks p ≡ false → Passes parents marks p n j → Passes parents marks i (suc n) j
 
--- a jump of node i has passed n parents, or come to the end
+-- a jump of node i has passed n parents, or come to the end within as many
 abbrev pub IsJump : List (Option ℕ) → List Bool → ℕ → ℕ → Jump → Type 0
-IsJump parents marks n i Root = (d : ℕ) × Climbs parents marks i d None
-IsJump parents marks n i (Found p) = (d : ℕ) × Climbs parents marks i d (Some p)
+IsJump parents marks n i Root = (d : ℕ) × (d ≤ n) × Climbs parents marks i d None
+IsJump parents marks n i (Found p) = (d : ℕ) × (d ≤ n) × Climbs parents marks i d (Some p)
 IsJump parents marks n i (To j) = Passes parents marks i n j
 
 -- the jump of a node

@@ -1,6 +1,7 @@
 //! The look-back: the join of the sums before a chunk, from what others have published (Merrill and Garland, "Single-pass Parallel
 //! Prefix Scan with Decoupled Look-back"). A chunk that isn't published is folded and not waited for.
 ghost use Rattle.std.specs.Prelude.{◌≡◌, ℕ, ◌+◌, ◌<◌, ◌≤◌, List, length};
+ghost use Rattle.chunk_seats.specs.Tallies.{times};
 ghost use Rattle.word_monoid.specs.Monoid.{IsItem};
 ghost use Rattle.word_monoid.specs.Folds.{prefix_of};
 ghost use Rattle.scan_lookback.specs.Views.{looking, loading};
@@ -92,7 +93,7 @@ impl<'a, M: WordMonoid, N: Chunks<M::Item>> ScanBoard<'a, M, N> {
         sum
     }
 
-    // The same, for a caller that counts nothing.
+    // The same, for a worker that has shown the sum of its own chunk before it looks back, and that counts nothing.
     pub(crate) fn joined_before<F: Fn(Unseen<'_>) -> M::Item, L: Ledger>(
         &self,
         seat: &mut Seat,
@@ -103,6 +104,7 @@ impl<'a, M: WordMonoid, N: Chunks<M::Item>> ScanBoard<'a, M, N> {
         requires ledger { (blank.name ≡ L.name) × (blank.parts ≡ L.parts) × (0 < L.parts) }
         requires board { seat.old.board ≡ self.now.board }
         requires chunk { c < self.now.chunks }
+        requires shown { 0 < times c seat.old.view.shown }
         requires callable { (u : _) → u.chunk < c → IsUnseen self.now.board u.chunk u → F.pre fold.now u }
         requires folds { (u : _) (x : _) → u.chunk < c → IsUnseen self.now.board u.chunk u → F.post fold.now u x → IsSum (M.ops self.now.monoid) N.sums u.chunk x }
         ensures joined { result ≡ prefix_of (M.ops self.now.monoid) N.sums c }

@@ -2,7 +2,7 @@ use Rattle.std.proofs.Common.{◌≡◌, ℕ, ◌-◌, ◌<◌, ◌^◌, ◌∙�
 use Rattle.par_passes.specs.Laws.Calling.{if_ok}
 use Rattle.pointer_jumping.specs.declared.jump.Jump.{Jump}
 use Rattle.pointer_jumping.specs.Jumps.{StandsBelow, is_open, jump_at, onwards, found_by}
-use Rattle.pointer_jumping.proofs.Jumping.{AreRounds, rounds_none, standing_all, round_more, round_less, found_out}
+use Rattle.pointer_jumping.proofs.Jumping.{AreRounds, rounds_none, standing_all, within_all, round_more, round_less, found_out}
 use Rattle.pointer_jumping.proofs.ancestors.nearest.Goals as goal
 
 pub loop-jumps-init : goal.loop-jumps-init
@@ -68,6 +68,17 @@ returns-clause-ancestors g c = if_ok c.answers.result c.answers.ensures (λ v is
     found_out c.args.parents.now c.args.marks.now c.requires.upward (c.loop-jumps.steps - c.args.steps.now) c.loop-jumps.jumps.items c.loop-jumps.invariant.rounds v.items
     (subst (λ (l : List Jump). v.items ≡ map found_by l) c.as_slice-2.ensures.value is)
     (subst (λ (l : List Jump). (i : ℕ) → i < length l → is_open (jump_at l i) ≡ false) c.as_slice.ensures.value (c.in_ok-any_open.ensures.settled c.if-branch.false)))
+
+pub returns-clause-enough : goal.returns-clause-enough
+returns-clause-enough g c =
+    let counted = c.loop-jumps.invariant.counted in
+    let r = c.loop-jumps.steps - c.args.steps.now in
+    if_ok c.answers.result c.answers.ensures (λ v is. (
+      r,
+      omega arith,
+      within_all c.args.parents.now c.args.marks.now c.requires.upward (2 ^ r) c.loop-jumps.jumps.items c.loop-jumps.invariant.rounds.jumps_are
+          (subst (λ (l : List Jump). (i : ℕ) → i < length l → is_open (jump_at l i) ≡ false) c.as_slice.ensures.value (c.in_ok-any_open.ensures.settled c.if-branch.false)),
+    ))
 
 pub returns-clause-rounds : goal.returns-clause-rounds
 returns-clause-rounds g c =

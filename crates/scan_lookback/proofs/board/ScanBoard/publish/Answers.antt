@@ -7,6 +7,10 @@ use Rattle.scan_lookback.specs.Views.{sealing, loading}
 use Rattle.scan_lookback.proofs.Working.{stands_last}
 use Rattle.scan_lookback.proofs.board.ScanBoard.publish.Goals as goal
 
+pub joined_before-start-requires-clause-shown : goal.joined_before-start-requires-clause-shown
+joined_before-start-requires-clause-shown g c =
+    stands_last c.args.c c.args.seat.now.view.shown c.show.new.seat.view.shown (ap (λ s. s.view.shown) c.show.ensures)
+
 pub seal-requires-clause-shown : goal.seal-requires-clause-shown
 seal-requires-clause-shown g c =
     stands_last c.args.c c.args.seat.now.view.shown c.joined_before-start.new.seat.view.shown (ap (λ s. s.view.shown) c.joined_before-start.ensures.loads.1 ∙ ap (λ s. s.view.shown) c.show.ensures)
