@@ -15,7 +15,7 @@ line text = text ++ 10 ∷ []
 abbrev pub whole_words : List ℕ → List ℕ
 whole_words bytes = map (λ k. word_at bytes (4 * k)) (range_with_len 0 (length bytes / 4))
 
--- what is told of one to three bytes that are left
+-- the line for one to three bytes that are left
 abbrev pub rest : ℕ → List ℕ
 rest zero = []
 rest (suc n) = line (codes "# rest " ++ decimal (suc n))

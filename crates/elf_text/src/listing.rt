@@ -40,7 +40,7 @@ fn push_words(out: &mut Vec<u8>, bytes: &[u8]) -> Result<(), AllocError>
     Ok(())
 }
 
-/// What is told of so many bytes that are no whole word.
+/// The line for one to three bytes behind the last whole word, or nothing.
 fn rest(count: usize) -> &'static [u8]
     requires { count < 4 }
     ensures { result.now ≡ rest count }

@@ -2,7 +2,7 @@ use crate::runs::{file_of, file_with};
 use elf_file::{ElfFault, ReadError};
 use elf_text::{asm, dump};
 use rv_text::AsmFault;
-use std::alloc::Global;
+use std::alloc::{AllocError, Global};
 use std::test::Fail;
 
 /// Two words that are instructions, and one that is none.
@@ -129,6 +129,44 @@ fn listings_become_files(rt: HostRuntime) -> Result<(), Fail> {
     let line = Some(AsmFault::Line(2));
     assert!(rt; fault_of(rt.alloc(), b"ecall\naddi x1, x0, 2048") == line);
     assert!(rt; fault_of(rt.alloc(), b"# nothing\n") == Some(AsmFault::Empty));
+    Ok(())
+}
+
+/// The most words of a listing, and the most bytes.
+const MOST_WORDS: usize = 4_194_304;
+
+const MOST_BYTES: usize = 134_217_728;
+
+/// So many lines, each with one instruction.
+fn calls(alloc: Global, count: usize) -> Result<Vec<u8>, AllocError> {
+    let mut text = Vec::new(alloc);
+    for _ in 0..count {
+        text.extend_from_slice(b"ecall\n")?;
+    }
+    Ok(text)
+}
+
+#[test]
+fn listings_may_be_too_long(rt: HostRuntime) -> Result<(), Fail> {
+    let most = calls(rt.alloc(), MOST_WORDS)?;
+    let file = assembled(rt.alloc(), &most).ok_or("the listing is assembled")?;
+    assert_eq!(rt; file.len(), 84 + 4 * MOST_WORDS);
+    let more = calls(rt.alloc(), MOST_WORDS + 1)?;
+    assert!(rt; fault_of(rt.alloc(), &more) == Some(AsmFault::TooMany));
+    Ok(())
+}
+
+/// So many blanks.
+fn blanks(alloc: Global, count: usize) -> Result<Vec<u8>, AllocError> {
+    vec![in alloc; b' '; count]
+}
+
+#[test]
+fn listings_may_be_too_large(rt: HostRuntime) -> Result<(), Fail> {
+    let most = blanks(rt.alloc(), MOST_BYTES)?;
+    assert!(rt; fault_of(rt.alloc(), &most) == Some(AsmFault::Empty));
+    let more = blanks(rt.alloc(), MOST_BYTES + 1)?;
+    assert!(rt; fault_of(rt.alloc(), &more) == Some(AsmFault::TooLarge));
     Ok(())
 }
 

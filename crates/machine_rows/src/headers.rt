@@ -49,7 +49,7 @@ fn header_of(number: u32) -> [u32; 8]
     ]
 }
 
-fn append(file: &mut Vec<u8>, words: &[u32]) -> Result<(), AllocError> {
+pub fn append(file: &mut Vec<u8>, words: &[u32]) -> Result<(), AllocError> {
     for word in words {
         let mut bytes = [0; 4];
         LittleEndian::write_u32(&mut bytes, *word);
