@@ -10,7 +10,8 @@ use Rattle.llp_tables.specs.Lookback.{IsStackAfter, IsLookback}
 use Rattle.llp_tables.specs.Tables.{Entry, HasEntry, AreTables}
 use Rattle.glue_summary.specs.declared.behind.Behind.{Behind}
 use Rattle.glue_summary.specs.declared.fault.ParseFault.TheVariants.{Syntax}
-use Rattle.glue_summary.specs.Glue.{IsParse, IsStack, pairs, productions_of, stack_along}
+use Rattle.glue_summary.specs.Glue.{IsStack, pairs, productions_of, stack_along}
+use Rattle.glue_summary.specs.Parse.{IsParse}
 use Rattle.glue_summary.specs.Pieces.{Pieces, ArePieces, IsStackBehind, IsClosedBehind, at_begin, behind_next, piece_behind}
 use Rattle.glue_summary.specs.Stretch.{IsGlued, IsGlueFault, last_of}
 use Rattle.glue_summary.proofs.Chunks.{behind_last}

@@ -30,7 +30,7 @@ impl Model for Walk {
 }
 
 impl Walk {
-    /// A walk that begins on the stack of the start, with room for so many productions.
+    /// A walk that begins on the stack of the start, with room for `capacity` productions.
     pub fn start<T: PieceTables>(
         alloc: Global,
         tables: &T,

@@ -1,9 +1,10 @@
 //! Programs whose outcomes are known.
 
 use crate::trees::{Node, program_of};
-use source_meaning::{BinaryOp, Expr, Function, Outcome, Program, Stmt, Stmts, walk};
+use source_meaning::BinaryOp;
 use std::alloc::Global;
 use std::test::Fail;
+use tree_interpreter::{Expr, Function, Outcome, Program, Stmt, Stmts, walk};
 
 const STACK: u32 = 1 << 20;
 

@@ -1,10 +1,11 @@
 //! The parallel left parse.
-ghost use Rattle.std.specs.Prelude.{◌≡◌, ◌<◌, ◌≤◌, length, flat_map, IfErr, IfOk};
+ghost use Rattle.std.specs.Prelude.{◌≡◌, ◌<◌, ◌≤◌, length, flat_map, IfErr, IfOk, OnOk};
 ghost use Rattle.std.specs.List.{range_with_len};
 ghost use Rattle.chunk_seats.specs.Chunks.{chunk_count};
 ghost use Rattle.glue_summary.specs.Marks.{chunk_marks};
 ghost use Rattle.glue_summary.specs.Parsing.{IsFaultBy, IsLeftParseBy};
-ghost use Rattle.glue_summary.specs.Stretch.{IsGlueFault, IsGlued, chunk_productions, ended_by};
+ghost use Rattle.glue_summary.specs.Pieces.{at_begin};
+ghost use Rattle.glue_summary.specs.Stretch.{AreMet, IsGlueFault, IsGlued, chunk_productions, ended_by, entries_of, start_of};
 ghost use Rattle.llp_wide.specs.WideParsing.{IsFaultByWide, IsLeftParseByWide};
 
 use chunk_seats::Gate;
@@ -148,4 +149,18 @@ pub fn parse_wide(
 {
     wide_tables_make_the_parse();
     glue_word(crew, tables, word)
+}
+
+/// Whether all pairs of a word meet the stack of the start, or the least pair that fails. Nothing is said of productions, so tables of which
+/// only what is closed and opened is known serve.
+pub fn meet<T: PieceTables + Send + Sync>(
+    crew: &impl Passes,
+    tables: &T,
+    word: &[u16],
+) -> Result<(), ParseFault>
+    ensures ok { OnOk result (AreMet (entries_of (T.pieces tables.now) at_begin (ended_by (T.mark tables.now) word.now)) (start_of (T.mark tables.now))) }
+    ensures fault { IfErr result (IsGlueFault (T.pieces tables.now) (T.mark tables.now) (ended_by (T.mark tables.now) word.now)) }
+{
+    let _productions = glue_word(crew, tables, word)?;
+    Ok(())
 }

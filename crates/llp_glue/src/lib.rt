@@ -4,4 +4,4 @@
 mod gluing;
 
 pub use glue_summary::ParseFault;
-pub use gluing::{parse, parse_wide};
+pub use gluing::{meet, parse, parse_wide};

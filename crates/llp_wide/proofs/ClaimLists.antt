@@ -1,5 +1,5 @@
 -- Claims that are added.
-use Rattle.std.proofs.Common.{◌≡◌, ℕ, zero, suc, ◌+◌, ◌<◌, ◌≤◌, ◌⊎◌, inl, inr, ⊎_elim, List, [], ◌∷◌, ◌++◌, length, take, Bool, true, false, Some, slice_get, refl, sym, ap, ◌∙◌, subst, arith}
+use Rattle.std.proofs.Common.{◌≡◌, ℕ, zero, suc, ◌+◌, ◌<◌, ◌≤◌, inl, inr, ⊎_elim, List, [], ◌∷◌, ◌++◌, length, take, Bool, true, false, Some, slice_get, refl, sym, ap, ◌∙◌, subst, arith}
 use Rattle.std.proofs.lemmas.Bool.{cases_lt, true≢false}
 use Rattle.std.proofs.lemmas.Option.{same_Some}
 use Rattle.grammar_file.specs.declared.symbols.Symbol.{Symbol}
@@ -8,13 +8,12 @@ use Rattle.llp_tables.specs.Cells.{IsBefore}
 use Rattle.llp_tables.specs.Forced.{is_stop}
 use Rattle.ll1_sets.specs.Marking.{vanishes, all_vanish, starts}
 use Rattle.llp_tables.specs.Slots.{Slots, covers}
-use Rattle.llp_tables.specs.Tables.{stack_lt}
 use Rattle.ll1_sets.specs.Laws.FormTests.{both, and}
-use Rattle.llp_tables.specs.Laws.StackOrder.{before_not_itself, before_trans}
 use Rattle.llp_wide.specs.Added.{IsIn, Adds, SomeBelow}
 use Rattle.llp_wide.specs.Places.{Spot}
-use Rattle.llp_wide.specs.Claims.{Claim, IsStopAt, IsStopIn, IsPassAt, AreClaimsCovered, IsLeastClaim}
-use Rattle.llp_wide.proofs.Additions.{in_parts, in_still, in_last, adds_one, adds_none, adds_as}
+use Rattle.llp_wide.specs.Claims.{Claim, IsStopAt, IsStopIn, IsPassAt, AreClaimsCovered}
+use Rattle.llp_wide.specs.Settling.{AreLeft, IsTakenOut}
+use Rattle.llp_wide.proofs.Additions.{adds_one, adds_none, adds_as}
 
 module _ (nullable first : List Bool) (b : ℕ) (after : List Symbol) (before : ℕ) (symbol : Symbol) (j : ℕ) (last : Symbol) (last_is : slice_get after j ≡ Some last) where
   pub no_stop : (old : List Claim) → is_stop nullable first b (take j after) last ≡ false → Adds (IsStopAt nullable first b after before symbol j) old old
@@ -67,45 +66,33 @@ pub by_spot : {A : Type 0} (spots : List A) (i : ℕ) (spot : A) (P : A → Clai
 by_spot {A} spots i spot P old new is h =
     adds_as (P spot) (λ claim. (s : A) × (slice_get spots i ≡ Some s) × P s claim) old new (λ x k. (spot, is, k)) (λ x k. subst (λ (s : A). P s x) (same_Some k.0 spot (sym k.1 ∙ is)) k.2) h
 
--- ---- the least that isn't covered
+-- ---- what is left in a queue
 
-module _ (cell : ℕ → Symbol → Slots) (xs : List Claim) (next : Claim) where
-  each : (P : Claim → Type 0) → ((x : Claim) → IsIn xs x → P x) → P next → (x : Claim) → IsIn (xs ++ next ∷ []) x → P x
-  each P before it x h = ⊎_elim (before x) (λ (k : x ≡ next). subst P (sym k) it) (in_parts xs next x h)
+module _ (cell : ℕ → Symbol → Slots) (old left : List Claim) (are : AreLeft cell old left) where
+  -- nothing more is left
+  pub all_covered : left ≡ [] → AreClaimsCovered old cell
+  all_covered none x h = ⊎_elim (λ (k : IsIn left x). absurd (subst (λ (xs : List Claim). IsIn xs x) none k)) (λ (e : covers (cell x.before x.symbol) x.stack ≡ true). e) (are.others x h)
 
-  pub all_covered : AreClaimsCovered xs cell → covers (cell next.before next.symbol) next.stack ≡ true → AreClaimsCovered (xs ++ next ∷ []) cell
-  all_covered h e = each (λ x. covers (cell x.before x.symbol) x.stack ≡ true) h e
+  module _ (new : List Claim) (p : Claim) (taken : Adds (λ x. x ≡ p) new left) where
+    from_new : (x : Claim) → IsIn new x → IsIn old x
+    from_new x h = are.from x (taken.keeps x h)
 
-  pub only_new : AreClaimsCovered xs cell → covers (cell next.before next.symbol) next.stack ≡ false → IsLeastClaim (xs ++ next ∷ []) cell next
-  only_new h e =
-      record {
-        waiting = in_last xs next next refl;
-        uncovered = e;
-        least = each (λ x. (covers (cell x.before x.symbol) x.stack ≡ true) ⊎ (IsBefore x.stack next.stack → ⊥)) (λ x k. inl (h x k)) (inr (before_not_itself next.stack));
-      }
-
-  module _ (p : Claim) (h : IsLeastClaim xs cell p) where
-    kept : (covers (cell next.before next.symbol) next.stack ≡ true) ⊎ (IsBefore next.stack p.stack → ⊥) → IsLeastClaim (xs ++ next ∷ []) cell p
-    kept e =
+    pub next_is_covered : covers (cell p.before p.symbol) p.stack ≡ true → AreLeft cell old new
+    next_is_covered e =
         record {
-          waiting = in_still xs next p h.waiting;
-          uncovered = h.uncovered;
-          least = each (λ x. (covers (cell x.before x.symbol) x.stack ≡ true) ⊎ (IsBefore x.stack p.stack → ⊥)) h.least e;
+          from = from_new;
+          others = λ x h. ⊎_elim (λ (k : IsIn left x). ⊎_elim (λ (m : IsIn new x). inl m) (λ (m : x ≡ p). inr (subst (λ (y : Claim). covers (cell y.before y.symbol) y.stack ≡ true) (sym m) e)) (taken.from x k))
+              (λ (k : covers (cell x.before x.symbol) x.stack ≡ true). inr k) (are.others x h);
         }
 
-    pub kept_least : stack_lt next.stack p.stack ≡ false → IsLeastClaim (xs ++ next ∷ []) cell p
-    kept_least e = kept (inr (λ l. true≢false (sym l ∙ e)))
-
-    pub kept_uncovered : covers (cell next.before next.symbol) next.stack ≡ true → IsLeastClaim (xs ++ next ∷ []) cell p
-    kept_uncovered e = kept (inl e)
-
-    pub lesser_taken : stack_lt next.stack p.stack ≡ true → covers (cell next.before next.symbol) next.stack ≡ false → IsLeastClaim (xs ++ next ∷ []) cell next
-    lesser_taken l e =
+    pub next_is_taken : ((x : Claim) → IsIn left x → IsBefore x.stack p.stack → ⊥) → covers (cell p.before p.symbol) p.stack ≡ false → IsTakenOut cell old new p
+    next_is_taken least e =
         record {
-          waiting = in_last xs next next refl;
-          uncovered = e;
-          least = each (λ x. (covers (cell x.before x.symbol) x.stack ≡ true) ⊎ (IsBefore x.stack next.stack → ⊥)) before (inr (before_not_itself next.stack));
+          least = record {
+            waiting = are.from p (taken.meets p refl);
+            uncovered = e;
+            least = λ x h. ⊎_elim (λ (k : IsIn left x). inr (least x k)) (λ (k : covers (cell x.before x.symbol) x.stack ≡ true). inl k) (are.others x h);
+          };
+          from = from_new;
+          others = λ x h. ⊎_elim (λ (k : IsIn left x). ⊎_elim (λ (m : IsIn new x). inl (inl m)) (λ (m : x ≡ p). inr m) (taken.from x k)) (λ (k : covers (cell x.before x.symbol) x.stack ≡ true). inl (inr k)) (are.others x h);
         }
-      where
-        before : (x : Claim) → IsIn xs x → (covers (cell x.before x.symbol) x.stack ≡ true) ⊎ (IsBefore x.stack next.stack → ⊥)
-        before x k = ⊎_elim (λ (c : covers (cell x.before x.symbol) x.stack ≡ true). inl c) (λ (n : IsBefore x.stack p.stack → ⊥). inr (λ m. n (before_trans x.stack next.stack p.stack m l))) (h.least x k)

@@ -12,4 +12,6 @@ pub mod WideSettling
 pub mod ClassLists
 pub mod Conflicting
 pub mod TripleLists
+pub mod TripleCounts
+pub mod StackPieceLists
 pub mod WidePieces

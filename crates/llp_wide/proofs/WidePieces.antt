@@ -31,7 +31,7 @@ module _ (g : Grammar) where
       let is : begin_mark ∷ begin_mark ∷ h.1 ≡ e.0 ++ k.before_last ∷ k.last ∷ [] = e.1 ∙ ap (λ (m : Behind). e.0 ++ m.before_last ∷ m.last ∷ []) h.3 in
       (h.0, e.0, subst (λ (x : List ℕ). FirstReaches g (wide_whole g) h.0 x stack) is (marked_twice h.0 h.1 stack h.2))
 
-  wide_closed : (k : Behind) (b : ℕ) (beta : List Symbol) → IsClosedBehind g k b beta → IsWideLookback g k.before_last k.last b beta
+  pub wide_closed : (k : Behind) (b : ℕ) (beta : List Symbol) → IsClosedBehind g k b beta → IsWideLookback g k.before_last k.last b beta
   wide_closed k b beta h = (h.0, wide_stack k (beta ++ h.0) h.1, h.2)
 
   pub wide_pieces : (entry : ℕ → ℕ → ℕ → Option Entry) → AreWideTables g entry → ArePieces g entry

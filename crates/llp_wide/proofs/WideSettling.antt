@@ -1,5 +1,5 @@
 -- Cells that fill up from the least string on, for each terminal that is matched last before a symbol.
-use Rattle.std.proofs.Common.{◌≡◌, ℕ, zero, suc, ◌+◌, ◌*◌, ◌<◌, ◌⊎◌, inl, inr, ⊎_elim, List, [], ◌∷◌, ◌++◌, length, Bool, true, false, Some, slice_index_or, refl, sym, ap, ◌∙◌, subst, append-nil, arith}
+use Rattle.std.proofs.Common.{◌≡◌, ℕ, zero, suc, ◌+◌, ◌*◌, ◌<◌, ◌⊎◌, inl, inr, ⊎_elim, List, [], ◌∷◌, ◌++◌, length, Bool, true, not, Some, slice_index_or, refl, sym, ap, ◌∙◌, subst, append-nil, arith}
 use Rattle.std.proofs.lemmas.Bool.{true≢false}
 use Rattle.std.proofs.lemmas.Option.{slice_get-get_or, get_or_from_slice_get}
 use Rattle.grammar_file.specs.declared.symbols.Symbol.{Symbol}
@@ -11,18 +11,20 @@ use Rattle.grammar_file.specs.Laws.Words.{same_nonterminal, terminal-nonterminal
 use Rattle.ll1_sets.specs.Predict.{IsNullable}
 use Rattle.llp_tables.specs.Cells.{IsBefore, IsCovered}
 use Rattle.ll1_sets.specs.Behind.{BeginsAtLast}
-use Rattle.llp_tables.specs.Slots.{Slots, Empty, Holds, AreInOrder, covers, add, room}
-use Rattle.llp_tables.specs.Laws.Filling.{covers_is, covers_more, add_holds, add_ordered, add_room, up_to, keeps_least}
+use Rattle.llp_tables.specs.Slots.{Slots, Empty, One, Two, Holds, AreInOrder, is_level, covers, add, room}
+use Rattle.llp_tables.specs.Tables.{stack_lt}
+use Rattle.llp_tables.specs.Laws.Filling.{covers_is, covers_more, add_holds, add_ordered, add_room, level_self, up_to, keeps_least}
 use Rattle.llp_tables.specs.Laws.Forcing.{stop_begins, stop_of}
-use Rattle.ll1_sets.specs.Laws.FormTests.{Nullable, First, vanishing, vanishes_exactly}
+use Rattle.ll1_sets.specs.Laws.FormTests.{Nullable, First, both, or_right, vanishing, vanishes_exactly}
 use Rattle.ll1_sets.specs.Laws.BehindRules.{one_end}
 use Rattle.llp_tables.specs.Laws.StackOrder.{before_not_itself, not_before_front}
 use Rattle.llp_tables.specs.Laws.TwoLeast.{covered_pass}
 use Rattle.llp_wide.specs.Added.{IsIn, Adds}
 use Rattle.llp_wide.specs.Claims.{Claim, IsStopIn, IsFirstClaim, IsPassOf, AreClaimsCovered, IsLeastClaim, AreLeastWide}
 use Rattle.llp_wide.specs.Places.{Spot, spots_behind, IsKept, IsSoundSpot, own, gathers, shared, AreSpots}
-use Rattle.llp_wide.specs.Settling.{IsWideSettling}
+use Rattle.llp_wide.specs.Settling.{IsWideSettling, AreLeft, IsTakenOut}
 use Rattle.llp_wide.specs.WideBehind.{any_before, IsEntered, BehindAny, WideBehind, here, through, of_start, of_begin}
+use Rattle.llp_wide.proofs.Additions.{in_front, in_behind, in_either}
 use Rattle.llp_wide.proofs.Finding.{in_at, at_in}
 use Rattle.llp_wide.proofs.WideBounds.{behind_below, entered_not_any}
 
@@ -32,6 +34,32 @@ within_groups [] zero spot h = absurd h
 within_groups [] (suc n) spot h = absurd h
 within_groups (x ∷ groups) zero spot h = omega arith
 within_groups (x ∷ groups) (suc n) spot h = let l = within_groups groups n spot h in omega arith
+
+-- a string that has come in is covered
+covers_added : (c : Slots) (w : List Symbol) → room c ≡ suc (room (add w c)) → covers (add w c) w ≡ true
+covers_added Empty w h = level_self w
+covers_added (One x) w h = or_right (is_level w x) (not (stack_lt w w)) (both (not (stack_lt w w)) (not (stack_lt w w)) (level_self w)).0
+covers_added (Two x y) w h = absurd (let e : ◌≡◌ {A = ℕ} 0 1 = h in omega arith)
+
+-- of the claims that are left the least is the least of all that have waited
+pub least_of_all : (cell : ℕ → Symbol → Slots) (claims before : List Claim) (p : Claim) → AreLeft cell claims before → IsLeastClaim before cell p → IsLeastClaim claims cell p
+least_of_all cell claims before p left least =
+    record {
+      waiting = left.from p least.waiting;
+      uncovered = least.uncovered;
+      least = λ x h. ⊎_elim (least.least x) (λ (e : covers (cell x.before x.symbol) x.stack ≡ true). inl e) (left.others x h);
+    }
+
+-- a queue of all of them has them all
+pub left_in_queue : (cell : ℕ → Symbol → Slots) (claims left : List Claim) → Adds (IsIn claims) [] left → AreLeft cell claims left
+left_in_queue cell claims left h =
+    record {
+      from = λ x k. ⊎_elim (λ (n : ⊥). absurd n) (λ (m : IsIn claims x). m) (h.from x k);
+      others = λ x k. inl (h.meets x k);
+    }
+
+pub all_claims_covered : (cell : ℕ → Symbol → Slots) (claims left : List Claim) → AreLeft cell claims left → AreClaimsCovered left cell → AreClaimsCovered claims cell
+all_claims_covered cell claims left are none x h = ⊎_elim (none x) (λ (e : covers (cell x.before x.symbol) x.stack ≡ true). e) (are.others x h)
 
 module _ (g : Grammar) (nullable first : List Bool) (b : ℕ) (groups : List (List Spot)) where
   abbrev pub Settling : List Symbol → (ℕ → Symbol → Slots) → List Claim → Type 0
@@ -163,14 +191,23 @@ module _ (g : Grammar) (nullable first : List Bool) (b : ℕ) (groups : List (Li
               passes = λ z s t k x f. ⊎_elim (λ (o : Holds (old z s) t). added.keeps x (h.passes z s t o x f)) (λ (e : IsIt z s t). added.meets x (subst (λ (c : Claim). Passes c x) (sym (it_is z s t e)) f)) (held z s t k);
             }
 
-    -- what waits and is the last string is the least that isn't covered
-    pub again_least : (last : List Symbol) (cell : ℕ → Symbol → Slots) (claims : List Claim) (p : Claim) → Settling last cell claims → IsIn claims p → p.stack ≡ last → covers (cell p.before p.symbol) p.stack ≡ false → IsLeastClaim claims cell p
-    again_least last cell claims p h waiting same uncovered =
-        record {
-          waiting = waiting;
-          uncovered = uncovered;
-          least = λ x k. subst (λ (w : List Symbol). (covers (cell x.before x.symbol) x.stack ≡ true) ⊎ (IsBefore x.stack w → ⊥)) (sym same) (h.ahead x k);
-        }
+        -- the claim is covered now
+        covered_now : covers (new p.before p.symbol) p.stack ≡ true
+        covered_now = subst (λ (c : Slots). covers c p.stack ≡ true) (sym at) (covers_added (old p.before p.symbol) p.stack wide_room_left)
+
+        -- what is left of all that has waited, once more has come into the queue
+        pub still_left : (before after now passed : List Claim) → AreLeft old claims before → IsTakenOut old before after p → Adds (IsIn passed) after now → more ≡ claims ++ passed → AreLeft new more now
+        still_left before after now passed left taken queued is =
+            record {
+              from = λ x k. subst (λ (xs : List Claim). IsIn xs x) (sym is) (⊎_elim (λ (m : IsIn after x). in_front claims passed x (left.from x (taken.from x m))) (λ (m : IsIn passed x). in_behind claims passed x m) (queued.from x k));
+              others = λ x k. ⊎_elim (λ (m : IsIn claims x). ⊎_elim (λ (n : IsIn before x). gone x (taken.others x n)) (λ (e : covers (old x.before x.symbol) x.stack ≡ true). inr (covered_still x.before x.symbol x.stack e)) (left.others x m))
+                  (λ (m : IsIn passed x). inl (queued.meets x m)) (in_either claims passed x (subst (λ (xs : List Claim). IsIn xs x) is k));
+            }
+          where
+            gone : (x : Claim) → (IsIn after x ⊎ (covers (old x.before x.symbol) x.stack ≡ true)) ⊎ (x ≡ p) → IsIn now x ⊎ (covers (new x.before x.symbol) x.stack ≡ true)
+            gone x (inl (inl m)) = inl (queued.keeps x m)
+            gone x (inl (inr e)) = inr (covered_still x.before x.symbol x.stack e)
+            gone x (inr e) = inr (subst (λ (y : Claim). covers (new y.before y.symbol) y.stack ≡ true) (sym e) covered_now)
 
     -- ---- at the end
 

@@ -10,7 +10,7 @@ use Rattle.llp_tables.specs.declared.cells.Members.{Members}
 use Rattle.llp_wide.specs.Claims.{Claim}
 use Rattle.llp_wide.specs.Classes.{AreClasses, room_in}
 use Rattle.llp_wide.specs.Places.{AreSpots}
-use Rattle.llp_wide.specs.Settling.{IsWideSettling}
+use Rattle.llp_wide.specs.Settling.{IsWideSettling, AreLeft}
 use Rattle.llp_wide.specs.declared.search.Ground.{Ground}
 
 -- the sets and the places are those of the grammar
@@ -31,3 +31,7 @@ room_on ground classes = room_in (length ground.grammar.now.terminals + 3) (leng
 -- the cells fill up, and `last` is the string that came in last
 abbrev pub IsSettlingOn : Ground → List Symbol → List Members → List Claim → Type 0
 IsSettlingOn ground last classes claims = IsWideSettling ground.grammar.now ground.nullable.now ground.first.now ground.b ground.groups.now last (cells_at classes) claims
+
+-- the cells fill up, and these claims are left
+abbrev pub IsFillingOn : Ground → List Members → List Claim → Type 0
+IsFillingOn ground classes left = (last : List Symbol) × (claims : List Claim) × IsSettlingOn ground last classes claims × AreLeft (cells_at classes) claims left

@@ -5,11 +5,15 @@ pub mod Added
 pub mod Places
 pub mod Surveys
 pub mod Claims
+pub mod Queueing
+pub mod Laws
 pub mod Classes
 pub mod Settling
 pub mod Grounds
 pub mod WideFaults
 pub mod WideConflicts
 pub mod WideEntries
+pub mod WideLookbacks
 pub mod Triples
+pub mod StackPieces
 pub mod WideParsing

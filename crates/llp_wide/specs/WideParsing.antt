@@ -5,7 +5,7 @@ use Rattle.grammar_file.specs.Spelling.{IsReduced}
 use Rattle.grammar_file.specs.SyntaxPlace.{IsSyntaxPlace}
 use Rattle.glue_summary.specs.declared.fault.ParseFault.{ParseFault}
 use Rattle.glue_summary.specs.declared.fault.ParseFault.TheVariants.{Syntax, NoMemory}
-use Rattle.glue_summary.specs.Glue.{IsParse}
+use Rattle.glue_summary.specs.Parse.{IsParse}
 use Rattle.llp_wide.specs.WideEntries.{WideTable, AreWideTablesOf}
 
 -- the end mark of the tables' grammar

@@ -9,12 +9,14 @@ ghost use Rattle.llp_tables.specs.Lookbacks.{cells_at};
 ghost use Rattle.llp_tables.specs.Slots.{covers};
 ghost use Rattle.llp_tables.specs.Tables.{stack_lt};
 ghost use Rattle.llp_wide.specs.Added.{Adds, SomeBelow};
-ghost use Rattle.llp_wide.specs.Claims.{Claim as AnyClaim, IsStopAt, IsStopIn, IsStopBy, IsStopOf, IsFirstClaim, IsPassAt, IsPassOf, AreClaimsCovered, IsLeastClaim};
+ghost use Rattle.llp_wide.specs.Claims.{IsStopAt, IsStopIn, IsStopBy, IsStopOf, IsFirstClaim, IsPassAt, IsPassOf};
+ghost use Rattle.llp_wide.specs.Queueing.{stack_cmp};
 
 use crate::places::{Group, Place};
 use grammar_file::{Grammar, Symbol};
 use llp_tables::{Members, all_vanish, is_before, starts};
 use std::alloc::{AllocError, Global};
+use std::cmp::Ordering;
 use std::marker::Model;
 
 /// A string that waits to come into the cell of a symbol before which a terminal is matched last.
@@ -35,6 +37,73 @@ impl Model for Waiting {
       symbol = w.symbol;
       stack = w.stack.items;
     } };
+}
+
+// Which of two strings comes first.
+fn order_of(a: &[Symbol], b: &[Symbol]) -> Ordering
+    ensures { result ≡ stack_cmp a.now b.now }
+{
+    if is_before(a, b) {
+        Ordering::Less
+    } else if is_before(b, a) {
+        Ordering::Greater
+    } else {
+        Ordering::Equal
+    }
+}
+
+impl PartialEq for Waiting {
+    ghost use Rattle.std.specs.Ordering.{eq_by_cmp};
+    ghost use Rattle.std.specs.Cmp.{partial_equiv_from_equiv};
+    ghost use Rattle.llp_wide.specs.Queueing.{claim_cmp};
+    ghost use Rattle.llp_wide.specs.Laws.QueueOrder.{claim_equivalence};
+
+    ghost eq = { eq_by_cmp claim_cmp };
+
+    ghost laws = { partial_equiv_from_equiv claim_equivalence };
+
+    fn eq(&self, other: &Waiting) -> bool {
+        self.cmp(other) == Ordering::Equal
+    }
+}
+
+impl Eq for Waiting {
+    ghost use Rattle.llp_wide.specs.Laws.QueueOrder.{claim_equivalence};
+
+    ghost laws = { claim_equivalence };
+}
+
+impl PartialOrd for Waiting {
+    ghost use Rattle.std.specs.Prelude.{Some};
+    ghost use Rattle.llp_wide.specs.Queueing.{claim_cmp};
+    ghost use Rattle.llp_wide.specs.Laws.QueueOrder.{claim_order};
+
+    ghost partial_cmp = { λ a b. Some (claim_cmp a b) };
+
+    ghost laws = { claim_order };
+
+    fn partial_cmp(&self, other: &Waiting) -> Option<Ordering> {
+        Some(self.cmp(other))
+    }
+}
+
+// In a queue the greatest item comes out first: lesser strings are greater.
+impl Ord for Waiting {
+    ghost use Rattle.std.proofs.Common.{refl};
+    ghost use Rattle.llp_wide.specs.Queueing.{claim_cmp};
+    ghost use Rattle.llp_wide.specs.Laws.QueueOrder.{claim_total};
+
+    ghost cmp = { claim_cmp };
+
+    ghost total = { claim_total };
+
+    ghost matches_partial_cmp = { λ a b. refl };
+
+    ghost matches_eq = { λ a b. refl };
+
+    fn cmp(&self, other: &Waiting) -> Ordering {
+        order_of(other.stack.as_slice(), self.stack.as_slice())
+    }
 }
 
 // Whether b may begin at symbol j of what stands behind a place.
@@ -244,72 +313,12 @@ pub(crate) fn add_passes(
     Ok(())
 }
 
-/// Whether the symbol's cell has the string, or two of which none is greater.
-pub(crate) fn covers(classes: &[Members], before: u16, symbol: Symbol, w: &[Symbol]) -> bool
-    ensures { result ≡ covers (cells_at classes.now before symbol) w.now }
-{
-    match classes.get(before as usize) {
-        Some(members) => members.covers(symbol, w),
-        None => false,
-    }
-}
-
-// Whether the one string comes before the other.
-fn is_lesser(a: &Waiting, b: &Waiting) -> bool
-    ensures { result ≡ stack_lt a.now.stack b.now.stack }
-{
-    is_before(a.stack.as_slice(), b.stack.as_slice())
-}
-
-/// Whether the string is covered by its cell.
+/// Whether the string is covered by its symbol's cell: the cell has it, or two strings of which none is greater.
 pub(crate) fn is_covered(classes: &[Members], waiting: &Waiting) -> bool
     ensures { result ≡ covers (cells_at classes.now waiting.now.before waiting.now.symbol) waiting.now.stack }
 {
-    covers(
-        classes,
-        waiting.before,
-        waiting.symbol,
-        waiting.stack.as_slice(),
-    )
-}
-
-// The lesser of the least string so far and the next one, unless the cell of that one covers it.
-fn lesser<'a>(
-    classes: &[Members],
-    best: Option<&'a Waiting>,
-    next: &'a Waiting,
-) -> Option<&'a Waiting>
-    ensures { (xs : List AnyClaim) → MatchOption best.entry (AreClaimsCovered xs (cells_at classes.now)) (λ p. IsLeastClaim xs (cells_at classes.now) p.now)
-        → MatchOption result (AreClaimsCovered (xs ++ next.now ∷ []) (cells_at classes.now)) (λ p. IsLeastClaim (xs ++ next.now ∷ []) (cells_at classes.now) p.now) }
-{
-    match best {
-        None => {
-            if is_covered(classes, next) {
-                None
-            } else {
-                Some(next)
-            }
-        }
-        Some(least) => {
-            if !is_lesser(next, least) {
-                return Some(least);
-            }
-            if is_covered(classes, next) {
-                Some(least)
-            } else {
-                Some(next)
-            }
-        }
+    match classes.get(waiting.before as usize) {
+        Some(members) => members.covers(waiting.symbol, waiting.stack.as_slice()),
+        None => false,
     }
-}
-
-/// The least string that waits and that no cell covers.
-pub(crate) fn least_waiting<'a>(classes: &[Members], waiting: &'a [Waiting]) -> Option<&'a Waiting>
-    ensures { MatchOption result (AreClaimsCovered waiting.now (cells_at classes.now)) (λ p. IsLeastClaim waiting.now (cells_at classes.now) p.now) }
-{
-    let mut best = None;
-    for i in 0..waiting.len() {
-        best = lesser(classes, best, &waiting[i]);
-    }
-    best
 }

@@ -1,19 +1,23 @@
-// The tables of a grammar where two terminals are looked back at, or why it has none.
+// The sets and the tables of a grammar where two terminals are looked back at, or why it has none.
 
 ghost use Rattle.std.specs.Prelude.{◌≡◌, ◌⊎◌, IfErr, IfOk, IfSome};
 ghost use Rattle.grammar_file.specs.Grammar.{IsWellFormed};
 ghost use Rattle.llp_tables.specs.EntryTable.{AreTablesOf, EntryTable};
+ghost use Rattle.llp_tables.specs.Lookback.{IsLlp};
 ghost use Rattle.ll1_sets.specs.Width.{width_of};
 ghost use Rattle.ll1_sets.specs.Predict.{IsLl1};
 ghost use Rattle.llp_wide.specs.Triples.{AreLayers};
 ghost use Rattle.llp_wide.specs.Wide.{IsWideLlp};
 ghost use Rattle.llp_wide.specs.WideEntries.{AreWideTablesOf};
 ghost use Rattle.llp_wide.specs.WideFaults.{IsWideFault};
+ghost use Rattle.llp_wide.specs.WideLookbacks.{AreWideLookbacksOf};
 ghost use Rattle.llp_wide.specs.declared.fault.WideFault.TheVariants.{Wide as AnyWide, NoMemory};
 
 use crate::conflicts::WideConflict;
 use crate::endings::endings;
 use crate::fault::{WideFault, prediction_fault};
+use crate::lookback_table::WideLookbacks;
+use crate::pieces::pieces_of;
 use crate::survey::places;
 use crate::triples::{Triples, conflict_or_triples};
 use crate::wide_table::WideTables;
@@ -34,27 +38,27 @@ fn wide_fault(conflict: WideConflict) -> WideFault
     }
 }
 
-/// The tables of a grammar that is LL(1) and LLP(2,1), if there was memory for all triples.
-fn wide_tables_of(grammar: &Grammar, triples: Option<Triples>) -> Result<WideTables, AllocError>
+/// The sets of a grammar that is LL(1) and LLP(2,1), if there was memory for all triples.
+fn lookbacks_by(grammar: &Grammar, triples: Option<Triples>) -> Result<WideLookbacks, AllocError>
     requires well_formed { IsWellFormed grammar.now }
     requires ll1 { IsLl1 grammar.now }
     requires llp { IsWideLlp grammar.now }
-    requires triples { IfSome triples (λ t. AreLayers grammar.now (width_of grammar.now) t.numbers.items t.pieces.items) }
-    ensures { IfOk result (AreWideTablesOf grammar.now) }
+    requires triples { IfSome triples (λ t. AreLayers grammar.now (width_of grammar.now) t.numbers.items t.stacks.items) }
+    ensures { IfOk result (AreWideLookbacksOf grammar.now) }
 {
     match triples {
-        Some(triples) => Ok(WideTables::new(width_of(grammar), triples)),
+        Some(triples) => Ok(WideLookbacks::new(width_of(grammar), triples)),
         None => Err(AllocError),
     }
 }
 
-impl WideTables {
-    /// The tables of a grammar where two terminals are looked back at, or its least conflict: exactly where it isn't LL(1) and
-    /// LLP(2,1). Where a grammar has tables with one terminal of look-back, it has these, or memory runs out.
-    pub fn build(alloc: Global, grammar: &Grammar) -> Result<WideTables, WideFault>
-        ensures ok { IfOk result (λ tables. AreWideTablesOf grammar.now tables) }
+impl WideLookbacks {
+    /// The sets PSLS of a grammar where two terminals are looked back at, or its least conflict: exactly where it isn't LL(1) and
+    /// LLP(2,1). Where one terminal of look-back serves a grammar, two do, or memory runs out.
+    pub fn of(alloc: Global, grammar: &Grammar) -> Result<WideLookbacks, WideFault>
+        ensures ok { IfOk result (λ lookbacks. AreWideLookbacksOf grammar.now lookbacks) }
         ensures fault { IfErr result (λ fault. (fault ≡ NoMemory) ⊎ IsWideFault grammar.now fault) }
-        ensures tabled { (t : EntryTable) → AreTablesOf grammar.now t → IfErr result (λ fault. fault ≡ NoMemory) }
+        ensures served { IsLl1 grammar.now → IsLlp grammar.now → IfErr result (λ fault. fault ≡ NoMemory) }
     {
         let nullable = nullable(alloc, grammar)?;
         if let Some(fault) = prediction_fault(alloc, grammar)? {
@@ -70,7 +74,33 @@ impl WideTables {
         )?;
         match conflict {
             Some(conflict) => Err(wide_fault(conflict)),
-            None => Ok(wide_tables_of(grammar, triples)?),
+            None => Ok(lookbacks_by(grammar, triples)?),
         }
+    }
+}
+
+/// The tables of a grammar from its sets.
+fn tables_by(
+    alloc: Global,
+    grammar: &Grammar,
+    lookbacks: WideLookbacks,
+) -> Result<WideTables, AllocError>
+    requires { AreWideLookbacksOf grammar.now lookbacks }
+    ensures { IfOk result (AreWideTablesOf grammar.now) }
+{
+    let pieces = pieces_of(alloc, grammar, lookbacks.stacks())?;
+    Ok(WideTables::new(width_of(grammar), lookbacks.into_numbers(), pieces))
+}
+
+impl WideTables {
+    /// The tables of a grammar where two terminals are looked back at, or its least conflict: exactly where it isn't LL(1) and
+    /// LLP(2,1). Where a grammar has tables with one terminal of look-back, it has these, or memory runs out.
+    pub fn build(alloc: Global, grammar: &Grammar) -> Result<WideTables, WideFault>
+        ensures ok { IfOk result (λ tables. AreWideTablesOf grammar.now tables) }
+        ensures fault { IfErr result (λ fault. (fault ≡ NoMemory) ⊎ IsWideFault grammar.now fault) }
+        ensures tabled { (t : EntryTable) → AreTablesOf grammar.now t → IfErr result (λ fault. fault ≡ NoMemory) }
+    {
+        let lookbacks = WideLookbacks::of(alloc, grammar)?;
+        Ok(tables_by(alloc, grammar, lookbacks)?)
     }
 }

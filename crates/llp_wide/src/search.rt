@@ -1,21 +1,23 @@
 // What is closed behind each symbol where one terminal comes next, by what is matched last before the symbol.
 
-ghost use Rattle.std.specs.Prelude.{◌≡◌, ◌<◌, ◌≤◌, ◌∷◌, [], ℕ, List, length, true, false, IfOk, OnOk};
+ghost use Rattle.std.specs.Prelude.{◌≡◌, ◌<◌, ◌∷◌, [], ℕ, List, length, true, false, IfOk, OnOk, MatchOption};
 ghost use Rattle.grammar_file.specs.declared.symbols.Symbol.{Symbol as AnySymbol};
 ghost use Rattle.grammar_file.specs.declared.symbols.Symbol.TheVariants.{Nonterminal as AnyNonterminal};
 ghost use Rattle.grammar_file.specs.Grammar.{IsWellFormed};
 ghost use Rattle.grammar_file.specs.Marks.{AreMarksOf};
 ghost use Rattle.llp_tables.specs.Lookbacks.{cells_at};
 ghost use Rattle.ll1_sets.specs.Predict.{IsNullable, IsFirst};
-ghost use Rattle.llp_tables.specs.Slots.{Empty as EmptySlots, covers};
-ghost use Rattle.llp_wide.specs.Claims.{AreLeastWide, IsLeastClaim, IsPassOf};
+ghost use Rattle.llp_tables.specs.Slots.{Empty as EmptySlots};
+ghost use Rattle.llp_wide.specs.Claims.{AreClaimsCovered, AreLeastWide, Claim as AnyClaim, IsPassOf};
 ghost use Rattle.llp_wide.specs.Added.{Adds};
 ghost use Rattle.llp_wide.specs.Classes.{HasWideCell, HasAdded, HasOpened, AreClasses, IsOpen};
-ghost use Rattle.llp_wide.specs.Grounds.{IsGround, IsSettlingOn, AreClassesOn, room_on};
+ghost use Rattle.llp_wide.specs.Grounds.{IsGround, IsFillingOn, AreClassesOn, room_on};
+ghost use Rattle.llp_wide.specs.Settling.{IsTakenOut};
 ghost use Rattle.llp_wide.specs.Places.{AreSpots, spots_behind};
 
-use crate::claims::{Waiting, add_passes, first_waiting, is_covered, least_waiting};
+use crate::claims::{Waiting, add_passes, first_waiting, is_covered};
 use crate::places::{Group, Place};
+use crate::queue::Queue;
 use grammar_file::{Grammar, Symbol};
 use llp_tables::Members;
 use std::alloc::{AllocError, Global};
@@ -73,18 +75,6 @@ fn add(classes: &mut Vec<Members>, claim: Waiting)
     classes[before as usize].add(symbol, stack);
 }
 
-// The same string once more.
-fn copied(alloc: Global, waiting: &Waiting) -> Result<Waiting, AllocError>
-    ensures { IfOk result (λ w. w ≡ waiting.now) }
-{
-    let stack = Vec::from_slice(alloc, waiting.stack.as_slice())?;
-    Ok(Waiting {
-        before: waiting.before,
-        symbol: waiting.symbol,
-        stack,
-    })
-}
-
 // The places in the right sides of a symbol, entered with that terminal matched last.
 fn places_behind(groups: &[Group], count: u16, before: u16, symbol: Symbol) -> &[Place]
     ensures { result.now ≡ spots_behind count groups.now before symbol }
@@ -100,17 +90,17 @@ fn places_behind(groups: &[Group], count: u16, before: u16, symbol: Symbol) -> &
     }
 }
 
-// Adds what the places of its symbol pass on of a string that comes into its cell.
-fn pass_on(
+// What the places of its symbol pass on of a string that comes into its cell.
+fn passes(
     alloc: Global,
     nullable: &[bool],
     groups: &[Group],
     count: u16,
     owner: &Waiting,
-    waiting: &mut Vec<Waiting>,
-) -> Result<(), AllocError>
-    ensures { IfOk result (λ u. Adds (IsPassOf nullable.now owner.now (spots_behind count groups.now owner.now.before owner.now.symbol)) waiting.old.items waiting.new.items) }
+) -> Result<Vec<Waiting>, AllocError>
+    ensures { IfOk result (λ v. Adds (IsPassOf nullable.now owner.now (spots_behind count groups.now owner.now.before owner.now.symbol)) [] v.items) }
 {
+    let mut passed = Vec::new(alloc);
     add_passes(
         alloc,
         nullable,
@@ -118,8 +108,9 @@ fn pass_on(
         owner.before,
         owner.symbol,
         owner.stack.as_slice(),
-        waiting,
-    )
+        &mut passed,
+    )?;
+    Ok(passed)
 }
 
 /// By what the cells are filled where the terminal b comes next.
@@ -132,94 +123,44 @@ struct Ground<'a> {
     b: u16,
 }
 
+// Takes the least string out that waits and that its cell doesn't cover. Strings that are covered wait no longer.
+fn next_waiting(classes: &[Members], queue: &mut Queue) -> Option<Waiting>
+    ensures { MatchOption result (AreClaimsCovered queue.old (cells_at classes.now)) (λ p. IsTakenOut (cells_at classes.now) queue.old queue.new p) }
+{
+    while let Some(next) = queue.next() {
+        if !is_covered(classes, &next) {
+            return Some(next);
+        }
+    }
+    None
+}
+
 // Takes the least string that waits into its cell.
 fn take(
     alloc: Global,
     ground: &Ground<'_>,
     claim: Waiting,
     classes: &mut Vec<Members>,
-    waiting: &mut Vec<Waiting>,
+    queue: &mut Queue,
 ) -> Result<(), AllocError>
     requires ground { IsGround ground.now }
     requires classes { AreClassesOn ground.now classes.old.items }
-    requires settling { (last : List AnySymbol) × IsSettlingOn ground.now last classes.old.items waiting.old.items }
-    requires least { IsLeastClaim waiting.old.items (cells_at classes.old.items) claim }
+    requires taken { (before : List AnyClaim) × IsFillingOn ground.now classes.old.items before × IsTakenOut (cells_at classes.old.items) before queue.old claim }
     ensures classes { OnOk result (AreClassesOn ground.now classes.new.items) }
-    ensures settling { OnOk result (IsSettlingOn ground.now claim.stack classes.new.items waiting.new.items) }
+    ensures filling { OnOk result (IsFillingOn ground.now classes.new.items queue.new) }
     ensures room { OnOk result (room_on ground.now classes.new.items < room_on ground.now classes.old.items) }
 {
     let count = ground.grammar.nonterminal_count();
-    pass_on(
-        alloc,
-        ground.nullable,
-        ground.groups,
-        count,
-        &claim,
-        waiting,
-    )?;
+    let passed = passes(alloc, ground.nullable, ground.groups, count, &claim)?;
+    queue.add(passed)?;
     let terminals = ground.grammar.terminals().len() + 3;
     open(alloc, classes, claim.before, terminals, count as usize)?;
     add(classes, claim);
     Ok(())
 }
 
-// Whether the string is this one, and its cell doesn't cover it.
-fn is_next(classes: &[Members], waiting: &Waiting, stack: &[Symbol]) -> bool
-    ensures same { result ≡ true → waiting.now.stack ≡ stack.now }
-    ensures uncovered { result ≡ true → covers (cells_at classes.now waiting.now.before waiting.now.symbol) waiting.now.stack ≡ false }
-{
-    waiting.stack.as_slice() == stack && !is_covered(classes, waiting)
-}
-
-// Takes the string at a place of the list into its cell, where it is the one that was taken last, and isn't covered.
-fn take_at(
-    alloc: Global,
-    ground: &Ground<'_>,
-    stack: &[Symbol],
-    i: usize,
-    classes: &mut Vec<Members>,
-    waiting: &mut Vec<Waiting>,
-) -> Result<(), AllocError>
-    requires ground { IsGround ground.now }
-    requires classes { AreClassesOn ground.now classes.old.items }
-    requires settling { IsSettlingOn ground.now stack.now classes.old.items waiting.old.items }
-    ensures classes { OnOk result (AreClassesOn ground.now classes.new.items) }
-    ensures settling { OnOk result (IsSettlingOn ground.now stack.now classes.new.items waiting.new.items) }
-    ensures room { OnOk result (room_on ground.now classes.new.items ≤ room_on ground.now classes.old.items) }
-{
-    let Some(next) = waiting.get(i) else {
-        return Ok(());
-    };
-    if !is_next(classes.as_slice(), next, stack) {
-        return Ok(());
-    }
-    let claim = copied(alloc, next)?;
-    take(alloc, ground, claim, classes, waiting)
-}
-
-// Takes all strings that wait and are the one that was taken last.
-fn take_same(
-    alloc: Global,
-    ground: &Ground<'_>,
-    stack: &[Symbol],
-    classes: &mut Vec<Members>,
-    waiting: &mut Vec<Waiting>,
-) -> Result<(), AllocError>
-    requires ground { IsGround ground.now }
-    requires classes { AreClassesOn ground.now classes.old.items }
-    requires settling { IsSettlingOn ground.now stack.now classes.old.items waiting.old.items }
-    ensures classes { OnOk result (AreClassesOn ground.now classes.new.items) }
-    ensures settling { OnOk result (IsSettlingOn ground.now stack.now classes.new.items waiting.new.items) }
-    ensures room { OnOk result (room_on ground.now classes.new.items ≤ room_on ground.now classes.old.items) }
-{
-    for i in 0..waiting.len() {
-        take_at(alloc, ground, stack, i, classes, waiting)?;
-    }
-    Ok(())
-}
-
 /// The two least strings that are closed behind each symbol where b comes next, for each terminal that is matched last before the
-/// symbol. Strings come in from the least one on, so none is taken out again, and all that are the same come in together.
+/// symbol. Strings come in from the least one on, so none is taken out again.
 pub(crate) fn least_wide_members(
     alloc: Global,
     grammar: &Grammar,
@@ -243,12 +184,10 @@ pub(crate) fn least_wide_members(
     };
     let terminals = grammar.terminals().len() + 3;
     let mut classes = empty_classes(alloc, terminals)?;
-    let mut waiting = first_waiting(alloc, grammar, nullable, first, groups, b)?;
-    while let Some(least) = least_waiting(classes.as_slice(), waiting.as_slice()) {
-        let claim = copied(alloc, least)?;
-        let stack = Vec::from_slice(alloc, claim.stack.as_slice())?;
-        take(alloc, &ground, claim, &mut classes, &mut waiting)?;
-        take_same(alloc, &ground, stack.as_slice(), &mut classes, &mut waiting)?;
+    let waiting = first_waiting(alloc, grammar, nullable, first, groups, b)?;
+    let mut queue = Queue::of(waiting);
+    while let Some(claim) = next_waiting(classes.as_slice(), &mut queue) {
+        take(alloc, &ground, claim, &mut classes, &mut queue)?;
     }
     Ok(classes)
 }

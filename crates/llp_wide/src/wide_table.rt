@@ -4,11 +4,11 @@ ghost use Rattle.std.specs.Prelude.{◌≡◌, length, map, count_by, is_some, s
 ghost use Rattle.std.specs.List.{AllByRecursion};
 ghost use Rattle.grammar_file.specs.Grammar.{Grammar as AnyGrammar};
 ghost use Rattle.llp_tables.specs.Tables.{Entry as AnyEntry};
-ghost use Rattle.llp_wide.specs.Triples.{IsNumberOf, entry_at};
+ghost use Rattle.llp_wide.specs.WideLookbacks.{IsNumberOf, item_at};
 ghost use Rattle.llp_wide.specs.WideEntries.{AreWideTablesOf, CountsTriples, wide_entry_of};
 
+use crate::lookback_table::count_numbers;
 use crate::pieces::WidePiece;
-use crate::triples::Triples;
 use llp_tables::Entry;
 use std::marker::Model;
 
@@ -24,14 +24,14 @@ pub struct WideTables {
 impl Model for WideTables {
     ghost use Rattle.std.specs.Prelude.{length, map};
     ghost use Rattle.std.specs.List.{AllByRecursion};
-    ghost use Rattle.llp_wide.specs.Triples.{IsNumberOf, entry_at};
+    ghost use Rattle.llp_wide.specs.WideLookbacks.{IsNumberOf, item_at};
     ghost use Rattle.llp_wide.specs.WideEntries.{WideTable};
 
     ghost Value = { WideTable };
 
     ghost view = { λ t. record {
       width = t.width;
-      entries = map (entry_at t.pieces.items) t.numbers.items;
+      entries = map (item_at t.pieces.items) t.numbers.items;
     } };
 
     ghost invariant = { λ t. AllByRecursion (IsNumberOf (length t.pieces.items)) t.numbers.items };
@@ -43,7 +43,7 @@ fn piece_at<'a>(
     pieces: &'a [WidePiece],
     place: usize,
 ) -> Option<&'a WidePiece>
-    ensures { MatchOption result (slice_index_or (map (entry_at pieces.now) numbers.now) place None ≡ None) (λ p. slice_index_or (map (entry_at pieces.now) numbers.now) place None ≡ Some p.now) }
+    ensures { MatchOption result (slice_index_or (map (item_at pieces.now) numbers.now) place None ≡ None) (λ p. slice_index_or (map (item_at pieces.now) numbers.now) place None ≡ Some p.now) }
 {
     match numbers.get(place) {
         Some(Some(number)) => pieces.get(*number as usize),
@@ -64,23 +64,16 @@ fn told(piece: &WidePiece) -> Entry<'_>
     }
 }
 
-/// How many places have a number.
-fn count_numbers(numbers: &[Option<u32>]) -> u64
-    ensures { result ≡ count_by is_some numbers.now }
-{
-    numbers.iter().filter(|number| number.is_some()).count() as u64
-}
-
 impl WideTables {
     /// The tables with these pieces, a layer for each of so many terminals.
-    pub(crate) fn new(width: u16, triples: Triples) -> WideTables
-        requires { AllByRecursion (IsNumberOf (length triples.pieces.items)) triples.numbers.items }
-        ensures { result ≡ record { width = width; entries = map (entry_at triples.pieces.items) triples.numbers.items } }
+    pub(crate) fn new(width: u16, numbers: Vec<Option<u32>>, pieces: Vec<WidePiece>) -> WideTables
+        requires { AllByRecursion (IsNumberOf (length pieces.items)) numbers.items }
+        ensures { result ≡ record { width = width; entries = map (item_at pieces.items) numbers.items } }
     {
         WideTables {
             width,
-            numbers: triples.numbers,
-            pieces: triples.pieces,
+            numbers,
+            pieces,
         }
     }
 

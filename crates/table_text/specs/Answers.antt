@@ -1,4 +1,4 @@
--- What is told of a grammar file, and of a word: the sizes of the grammar and of its tables, and the word's left parse, or why there are none.
+-- The answer to a grammar file, and to a word: the sizes of the grammar and of its tables, and the word's left parse, or why there are none.
 use Rattle.std.specs.Prelude.{◌≡◌, ℕ, List, ◌++◌, Option, Some, None, Ok, Err}
 use Rattle.grammar_file.specs.Grammar.{Grammar}
 use Rattle.grammar_file.specs.Spelling.{Spells}
@@ -15,7 +15,7 @@ use Rattle.llp_wide.specs.Wide.{IsWideLlp}
 use Rattle.llp_wide.specs.WideEntries.{CountsTriples}
 use Rattle.llp_wide.specs.WideFaults.{IsWideFault, line_of_wide_fault}
 use Rattle.llp_wide.specs.declared.fault.WideFault.{WideFault}
-use Rattle.glue_summary.specs.Glue.{IsParse}
+use Rattle.glue_summary.specs.Parse.{IsParse}
 use Rattle.table_text.specs.Lines.{sizes, parse_line}
 use Rattle.table_text.specs.Tokens.{tokens_of}
 use Rattle.table_text.specs.declared.answer.TableAnswer.{TableAnswer}

@@ -33,7 +33,7 @@ impl Text {
     }
 }
 
-/// What is told of a grammar file, and of a word.
+/// The answer to a grammar file, and to a word.
 #[derive(Drop)]
 pub enum TableAnswer {
     /// The lines of the sizes of the grammar and of its tables, and of the word's left parse.

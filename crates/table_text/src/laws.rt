@@ -24,7 +24,7 @@ pub fn wide_grammars_have_one_answer()
     ll1_has_no_left_recursion();
 }
 
-/// One thing is told of a grammar file, and of a word.
+/// A grammar file and a word have one answer.
 pub fn files_have_one_answer()
     ensures { (bytes : List ℕ) (word : Option (List ℕ)) (a b : TableAnswer) → IsTableAnswer bytes word a → IsTableAnswer bytes word b → a ≡ b }
 {

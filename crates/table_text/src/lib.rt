@@ -1,9 +1,13 @@
-//! What is told of a grammar file: the sizes of its grammar and of its tables, and the left parse of a word, or why there are none.
+//! The answer to a grammar file: the sizes of its grammar and of its tables, and the left parse of a word, or why there are none.
 #![tactic(auto)]
 
+mod ahead;
 mod answer;
 mod laws;
 mod lines;
+mod lookback;
+mod outlines;
+mod readings;
 mod table;
 mod tokens;
 

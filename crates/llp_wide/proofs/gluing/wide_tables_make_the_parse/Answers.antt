@@ -5,8 +5,11 @@ use Rattle.glue_summary.specs.declared.fault.ParseFault.TheVariants.{Syntax, NoM
 use Rattle.glue_summary.specs.Stretch.{IsGlued, IsGlueFault, ended_by}
 use Rattle.llp_wide.specs.WideEntries.{WideTable, wide_entry_of}
 use Rattle.llp_wide.specs.WideParsing.{IsFaultByWide, wide_end}
-use Rattle.llp_wide.proofs.WidePieces.{wide_pieces, wide_end_is}
+use Rattle.llp_wide.proofs.WidePieces.{wide_closed, wide_pieces, wide_end_is}
 use Rattle.llp_wide.proofs.gluing.wide_tables_make_the_parse.Goals as goal
+
+pub returns-clause-closed : goal.returns-clause-closed
+returns-clause-closed c = wide_closed
 
 pub returns-clause-pieces : goal.returns-clause-pieces
 returns-clause-pieces c = wide_pieces

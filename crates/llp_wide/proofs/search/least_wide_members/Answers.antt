@@ -3,23 +3,25 @@ use Rattle.llp_tables.specs.Lookbacks.{cells_at}
 use Rattle.llp_tables.specs.declared.cells.Members.{Members}
 use Rattle.llp_wide.specs.Claims.{Claim, AreClaimsCovered}
 use Rattle.llp_wide.specs.Classes.{AreClasses}
-use Rattle.llp_wide.proofs.WideSettling.{wide_settling_start, wide_settled}
+use Rattle.llp_wide.proofs.WideSettling.{wide_settling_start, wide_settled, all_claims_covered, left_in_queue}
 use Rattle.llp_wide.proofs.search.least_wide_members.Goals as goal
 
-pub loop-least-init : goal.loop-least-init
-loop-least-init c =
+pub loop-claim-init : goal.loop-claim-init
+loop-claim-init c =
+    let claims : List Claim = c.in_ok-waiting.waiting.items in
     record {
       classes = subst (λ (t : ℕ). AreClasses t (length c.args.grammar.now.nonterminals) c.in_ok-classes.classes.items) (λ i. length (c.terminals.ensures.names i) + 3) (c.in_ok-classes.ensures.classes (length c.args.grammar.now.nonterminals));
-      settling = (
+      filling = (
         [],
-        wide_settling_start c.args.grammar.now c.args.nullable.now c.args.first.now c.args.b c.args.groups.now c.requires.well_formed c.requires.nullable c.requires.first c.requires.places (cells_at c.in_ok-classes.classes.items) c.in_ok-waiting.waiting.items c.in_ok-classes.ensures.empty
-            c.in_ok-waiting.ensures,
+        claims,
+        wide_settling_start c.args.grammar.now c.args.nullable.now c.args.first.now c.args.b c.args.groups.now c.requires.well_formed c.requires.nullable c.requires.first c.requires.places (cells_at c.in_ok-classes.classes.items) claims c.in_ok-classes.ensures.empty c.in_ok-waiting.ensures,
+        left_in_queue (cells_at c.in_ok-classes.classes.items) claims c.of-queue.result c.of-queue.ensures,
       );
     }
 
 pub returns : goal.returns
 returns c =
-    let none : AreClaimsCovered c.loop-least.waiting.items (cells_at c.loop-least.classes.items) =
-    subst (λ (t : List Claim × List Members). AreClaimsCovered t.0 (cells_at t.1)) (λ j. (c.as_slice-in-loop-least.ensures.value j, c.as_slice.ensures.value j)) c.in_default.ensures in
-    let s = c.loop-least.invariant.settling in
-    wide_settled c.args.grammar.now c.args.nullable.now c.args.first.now c.args.b c.args.groups.now c.requires.well_formed c.requires.nullable c.requires.first c.requires.places s.0 (cells_at c.loop-least.classes.items) c.loop-least.waiting.items s.1 none
+    let cell = cells_at c.loop-claim.classes.items in
+    let s = c.loop-claim.invariant.filling in
+    let none : AreClaimsCovered c.loop-claim.queue cell = subst (λ (ms : List Members). AreClaimsCovered c.loop-claim.queue (cells_at ms)) c.as_slice.ensures.value c.in_default.ensures in
+    wide_settled c.args.grammar.now c.args.nullable.now c.args.first.now c.args.b c.args.groups.now c.requires.well_formed c.requires.nullable c.requires.first c.requires.places s.0 cell s.1 s.2 (all_claims_covered cell s.1 c.loop-claim.queue s.3 none)

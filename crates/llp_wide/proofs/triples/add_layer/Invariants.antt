@@ -4,4 +4,4 @@ use Rattle.llp_wide.specs.WideEntries.{triple_place}
 use Rattle.llp_wide.proofs.triples.add_layer.Given as goal
 
 abbrev pub invariant-loop-z : goal.invariant-loop-z
-invariant-loop-z l = AreTriplesUpTo l.grammar l.ahead.b l.start (triple_place (width_of l.grammar) l.z 0 l.ahead.b) l.triples.numbers.items l.triples.pieces.items
+invariant-loop-z l = AreTriplesUpTo l.grammar l.b l.start (triple_place (width_of l.grammar) l.z 0 l.b) l.triples.numbers.items l.triples.stacks.items

@@ -4,4 +4,4 @@ use Rattle.llp_wide.specs.WideEntries.{triple_place}
 use Rattle.llp_wide.proofs.triples.add_row.Given as goal
 
 abbrev pub invariant-loop-a : goal.invariant-loop-a
-invariant-loop-a l = AreTriplesUpTo l.grammar l.ahead.b l.start (triple_place (width_of l.grammar) l.z l.a l.ahead.b) l.triples.numbers.items l.triples.pieces.items
+invariant-loop-a l = AreTriplesUpTo l.grammar l.b l.start (triple_place (width_of l.grammar) l.z l.a l.b) l.triples.numbers.items l.triples.stacks.items

@@ -7,5 +7,5 @@ abbrev pub invariant-loop-b : goal.invariant-loop-b
 invariant-loop-b l =
     record {
       least : LeastWideBelow l.grammar l.b l.best;
-      layers : l.is_whole ≡ true → AreLayers l.grammar l.b l.triples.numbers.items l.triples.pieces.items;
+      layers : l.is_whole ≡ true → AreLayers l.grammar l.b l.triples.numbers.items l.triples.stacks.items;
     }

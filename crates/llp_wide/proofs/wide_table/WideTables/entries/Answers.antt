@@ -1,6 +1,6 @@
 use Rattle.std.proofs.Common.{sym, subst}
 use Rattle.llp_wide.specs.WideEntries.{CountsTriples}
-use Rattle.llp_wide.proofs.TripleLists.{triples_counted}
+use Rattle.llp_wide.proofs.TripleCounts.{triples_counted}
 use Rattle.llp_wide.proofs.wide_table.WideTables.entries.Goals as goal
 
 pub returns-clause-triples : goal.returns-clause-triples

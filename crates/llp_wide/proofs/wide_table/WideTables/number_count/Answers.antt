@@ -1,7 +1,7 @@
 use Rattle.std.proofs.Common.{ap, ◌∙◌}
 use Rattle.std.specs.Prelude.{count_by, is_some}
 use Rattle.llp_wide.specs.WideEntries.{WideTable}
-use Rattle.llp_wide.proofs.TripleLists.{numbers_counted}
+use Rattle.llp_wide.proofs.TripleCounts.{numbers_counted}
 use Rattle.llp_wide.proofs.wide_table.WideTables.number_count.Goals as goal
 
 pub returns : goal.returns

@@ -1,7 +1,0 @@
-use Rattle.std.proofs.Common.{sym, ap, ◌∙◌}
-use Rattle.llp_tables.specs.Tables.{Entry}
-use Rattle.llp_wide.proofs.SameSymbols.{same_symbols}
-use Rattle.llp_wide.proofs.pieces.is_closing.Goals as goal
-
-pub returns : goal.returns
-returns c = λ h. ap (λ (e : Entry). e.closes) (sym c.piece.view_is) ∙ (sym c.as_slice.ensures.value ∙ same_symbols c.as_slice.result.now c.args.closes.now (sym c.eq.ensures ∙ h))
