@@ -115,6 +115,6 @@ asked_by name rows =
 abbrev pub asked : List Text → Option Asked
 asked words = if is_empty (fault_of app words) then option_map (λ s. asked_by s.0 s.1) (subcommand_of app words) else None
 
--- their command alone: what is due hangs on nothing else of them
+-- their command alone: what is due depends on nothing else in them
 abbrev pub command_of : List Text → Option Command
 command_of words = option_map (λ a. a.command) (asked words)

@@ -7,12 +7,12 @@ use crate::word::Word;
 pub enum Command {
     /// Compiles the source on the input to an executable file on the output.
     Build,
-    /// Compiles the source on the input, and runs its file on the machine for at most so many steps.
+    /// Compiles the source on the input, and runs its file on the machine for at most `steps` steps.
     Run {
         /// The most steps.
         steps: u32,
     },
-    /// Runs the executable file on the input on the machine for at most so many steps.
+    /// Runs the executable file on the input on the machine for at most `steps` steps.
     Emu {
         /// The most steps.
         steps: u32,

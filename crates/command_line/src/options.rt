@@ -1,4 +1,5 @@
-// The command, its subcommands and options, as `clap` builds them.
+// The command, its subcommands and options, as `clap` builds them. Each is a large value that is moved at every step: a builder has a stack frame of
+// its own, so that what it takes of the stack is given back before the next one begins.
 
 ghost use Rattle.std.specs.Prelude.{◌≡◌, IfOk, false};
 ghost use Rattle.clap.specs.Words.{app_of, rule_of, shape_of};
@@ -109,6 +110,7 @@ fn word<'a>(alloc: Global) -> Arg<'a>
     value_option(alloc, "word", "W", value_parser!(String), help)
 }
 
+#[inline(never)]
 fn build<'a>(alloc: Global) -> Result<Command<'a>, AllocError>
     ensures { IfOk result (λ c. shape_of c ≡ build_shape) }
 {
@@ -120,28 +122,31 @@ fn build<'a>(alloc: Global) -> Result<Command<'a>, AllocError>
         .arg(chunk(alloc))
 }
 
+#[inline(never)]
 fn run<'a>(alloc: Global) -> Result<Command<'a>, AllocError>
     ensures { IfOk result (λ c. shape_of c ≡ run_shape) }
 {
     Command::new(alloc, "run")
         .about(
-            "Compiles a program from standard input and runs it on the emulator: prints how it ends",
+            "Compiles a program from standard input and runs it on the emulator: prints its output and how it ends",
         )
         .arg(workers(alloc))?
         .arg(chunk(alloc))?
         .arg(steps(alloc))
 }
 
+#[inline(never)]
 fn emu<'a>(alloc: Global) -> Result<Command<'a>, AllocError>
     ensures { IfOk result (λ c. shape_of c ≡ emu_shape) }
 {
     Command::new(alloc, "emu")
         .about(
-            "Runs an ELF file for RV32IM from standard input on the emulator: prints how it ends",
+            "Runs an ELF file for RV32IM from standard input on the emulator: prints its output and how it ends",
         )
         .arg(steps(alloc))
 }
 
+#[inline(never)]
 fn dump<'a>(alloc: Global) -> Command<'a>
     ensures { shape_of result ≡ dump_shape }
 {
@@ -150,6 +155,7 @@ fn dump<'a>(alloc: Global) -> Command<'a>
     )
 }
 
+#[inline(never)]
 fn asm<'a>(alloc: Global) -> Command<'a>
     ensures { shape_of result ≡ asm_shape }
 {
@@ -158,6 +164,7 @@ fn asm<'a>(alloc: Global) -> Command<'a>
     )
 }
 
+#[inline(never)]
 fn table<'a>(alloc: Global) -> Result<Command<'a>, AllocError>
     ensures { IfOk result (λ c. shape_of c ≡ table_shape) }
 {
@@ -168,6 +175,7 @@ fn table<'a>(alloc: Global) -> Result<Command<'a>, AllocError>
         .arg(word(alloc))
 }
 
+#[inline(never)]
 fn drill<'a>(alloc: Global) -> Result<Command<'a>, AllocError>
     ensures { IfOk result (λ c. shape_of c ≡ drill_shape) }
 {
@@ -182,6 +190,7 @@ fn drill<'a>(alloc: Global) -> Result<Command<'a>, AllocError>
 }
 
 // The command before it has subcommands.
+#[inline(never)]
 fn bare<'a>(alloc: Global) -> Command<'a>
     ensures { app_of result ≡ bare_app }
 {
@@ -194,6 +203,7 @@ fn bare<'a>(alloc: Global) -> Command<'a>
 }
 
 /// The command line as `clap` reads it.
+#[inline(never)]
 pub(crate) fn command<'a>(alloc: Global) -> Result<Command<'a>, AllocError>
     ensures { IfOk result (λ c. app_of c ≡ app) }
 {

@@ -133,7 +133,8 @@ fn refused_by(alloc: Global, error: &Error) -> Refusal
     }
 }
 
-/// What the words ask for, of which the first is the program's name.
+/// What the words ask for, of which the first is the program's name. What it takes of the stack is given back before the work begins.
+#[inline(never)]
 pub fn read(alloc: Global, words: &[String]) -> Result<Request, Refusal>
     ensures asked { IfOk result (λ request. asked (map string_bytes words.now) ≡ Some request) }
     ensures refused { IfErr result (λ refusal. IsUsage refusal → asked (map string_bytes words.now) ≡ None) }

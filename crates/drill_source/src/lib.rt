@@ -1,4 +1,4 @@
-//! Source texts that are made from a seed: each has so many functions, of which each calls the one before it, and is a program.
+//! Source texts that are made from a seed and a number of functions: each function calls the one before it, and the text is a program.
 #![tactic(auto)]
 
 mod generator;

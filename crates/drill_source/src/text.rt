@@ -33,7 +33,7 @@ fn push_main(alloc: Global, text: &mut Vec<u8>, last: u32) -> Result<(), AllocEr
     text.extend_from_slice(line.as_bytes())
 }
 
-/// The text of a seed, with so many functions beside `main`: a line each, of which each calls the one before it.
+/// The text of a seed, with `functions` functions beside `main`: a line each, and each calls the one before it.
 /// With none, `main` is left alone and calls a function that isn't there.
 pub fn source(alloc: Global, seed: u32, functions: u32) -> Result<Vec<u8>, AllocError>
     ensures { IfOk result (λ text. text.items ≡ drill_text seed functions) }

@@ -8,6 +8,7 @@ ghost use Rattle.tree_passes.specs.declared.kin.Found.{Found as AnyFound};
 
 use list_cuts::stretch_start;
 use par_passes::Passes;
+use phase_faults::FaultKey;
 use row_columns::{Columns, least_fault};
 use row_kin::{Kin, kin_stretch};
 use std::alloc::{AllocError, Global};
@@ -16,7 +17,7 @@ use std::alloc::{AllocError, Global};
 #[derive(Drop)]
 pub(crate) struct Found {
     pub(crate) kin: Kin,
-    pub(crate) least: u64,
+    pub(crate) least: FaultKey,
 }
 
 // The kin of the rows from one up to another, as if there were no others.
@@ -137,7 +138,7 @@ pub(crate) fn join_found(
             places: Vec::new(alloc),
             counts: Vec::new(alloc),
         },
-        least: u64::MAX,
+        least: FaultKey::NONE,
     };
     for part in parts {
         append(&mut all, part)?;

@@ -1,10 +1,12 @@
 //! The rows of a syntax tree.
-ghost use Rattle.std.specs.Prelude.{◌≡◌, ℕ, ◌-◌, ◌/◌, ◌%◌, ◌<◌, ◌≤◌, ◌^◌, [], None, Some, Err, List, length, map, IfOk};
+ghost use Rattle.std.specs.Prelude.{◌≡◌, ℕ, ◌<◌, ◌≤◌, ◌^◌, [], None, Some, Err, List, length, map, IfOk};
 ghost use Rattle.source_meaning.specs.Lexemes.{lexical_fault, tokens as tokens_of};
 ghost use Rattle.source_meaning.specs.Grammar.{Prog, Tree, ast, leaves, left_parse};
 ghost use Rattle.source_meaning.specs.Rows.{post};
 ghost use Rattle.source_meaning.specs.Scope.{earliest};
 ghost use Rattle.source_meaning.specs.Shape.{shape_faults};
+ghost use Rattle.phase_faults.specs.Keys.{IsLeastKey};
+ghost use Rattle.phase_faults.specs.declared.fault.PhaseFault.TheVariants.{Diagnostic as Told};
 ghost use Rattle.ast_rows.specs.TokenRows.{row_of};
 ghost use Rattle.row_laws.specs.Marks.{Mark};
 ghost use Rattle.row_laws.specs.Climbed.{row_by_lists};
@@ -18,11 +20,9 @@ ghost use Rattle.row_kin.specs.Alone.{ties_by_stretches};
 ghost use Rattle.tree_passes.specs.Columns.{numbers_of};
 ghost use Rattle.tree_passes.specs.Kin.{AreTies};
 ghost use Rattle.tree_passes.specs.Stretches.{IsCut};
-ghost use Rattle.tree_passes.specs.TreeColumns.{IsLeastKey, IsParseOf};
-ghost use Rattle.tree_passes.specs.declared.fault.ShapeFault.TheVariants.{Diagnostic as Told};
+ghost use Rattle.tree_passes.specs.TreeColumns.{IsParseOf};
 
 use crate::cuts::stretch_ends;
-use crate::fault::ShapeFault;
 use crate::kin::{Found, find_all, join_found};
 use crate::laid::lay;
 use crate::owned::owned_all;
@@ -31,6 +31,7 @@ use crate::starts::{Parse, add_up, tally_all};
 use crate::walked::{columns_all, join_columns};
 use ast_rows::{Rows, Tokens};
 use par_passes::Passes;
+use phase_faults::PhaseFault;
 use row_columns::{Columns, Source, add_program, stretches_are_rows, stretches_tell_faults};
 use row_kin::{Kin, kin_settled};
 use row_walk::walks_give_rows;
@@ -120,34 +121,22 @@ fn lay_rows(columns: Columns, ends: &[usize], kin: Kin) -> Rows
     )
 }
 
-// The fault that a key stands for.
-fn told(key: u64) -> ShapeFault
-    requires { key / 1024 < 2 ^ 32 }
-    ensures { result ≡ Told (key % 1024) (key / 1024) }
-{
-    ShapeFault::Diagnostic {
-        code: (key % 1024) as u16,
-        at: (key / 1024) as u32,
-    }
-}
-
-// The rows, or the fault that the least key stands for.
-fn answer(columns: Columns, ends: &[usize], found: Found) -> Result<Rows, ShapeFault>
+// The rows, or the fault that the least key tells.
+fn answer(columns: Columns, ends: &[usize], found: Found) -> Result<Rows, PhaseFault>
     requires few { length columns.kinds.items ≤ 4294967295 }
     requires lows { length columns.lows.items ≡ length columns.kinds.items }
     requires tokens { length columns.tokens.items ≡ length columns.kinds.items }
     requires cuts { AreCuts ends.now (length columns.kinds.items) }
     requires ties { AreTies (ties_by_stretches columns.lows.items ends.now) found.kin.parents.items found.kin.lows.items found.kin.places.items found.kin.counts.items }
-    requires known { (r : Tree Prog) × IsLeastKey r found.least }
     ensures ok { IfOk result (λ v. (r : Tree Prog) → AreRowColumns (tree_marks r) columns.kinds.items columns.lows.items columns.tokens.items
-        → AreSmall (tree_marks r) → IsLeastKey r found.least → (shape_faults (ast r) ≡ [])
+        → AreSmall (tree_marks r) → IsLeastKey (shape_faults (ast r)) found.least → (shape_faults (ast r) ≡ [])
         × (v ≡ map (row_by_lists (tree_marks r)) (numbers_of (tree_marks r)))) }
-    ensures fault { (code at : ℕ) → result ≡ Err (Told code at) → (r : Tree Prog) → IsLeastKey r found.least → earliest (shape_faults (ast r)) ≡ Some (record { at = at; code = code }) }
+    ensures fault { (code at : ℕ) → result ≡ Err (Told code at) → (r : Tree Prog) → IsLeastKey (shape_faults (ast r)) found.least
+        → earliest (shape_faults (ast r)) ≡ Some (record { at = at; code = code }) }
 {
-    if found.least == u64::MAX {
-        Ok(lay_rows(columns, ends, found.kin))
-    } else {
-        Err(told(found.least))
+    match found.least.fault() {
+        None => Ok(lay_rows(columns, ends, found.kin)),
+        Some(fault) => Err(fault),
     }
 }
 
@@ -159,7 +148,7 @@ pub fn rows(
     text: &[u8],
     tokens: &Tokens,
     parse: &[u16],
-) -> Result<Rows, ShapeFault>
+) -> Result<Rows, PhaseFault>
     requires small { length text.now ≤ 2 ^ 24 }
     requires lexical { lexical_fault text.now ≡ None }
     requires tokens { tokens.now ≡ map row_of (tokens_of text.now) }

@@ -1,10 +1,12 @@
-use Rattle.std.proofs.Common.{sym, ◌∙◌}
+use Rattle.std.proofs.Common.{sym, subst, ◌∙◌}
 use Rattle.par_passes.specs.Laws.Calling.{if_ok}
-use Rattle.source_meaning.specs.Grammar.{leaves, left_parse}
+use Rattle.source_meaning.specs.Grammar.{ast, leaves, left_parse}
+use Rattle.source_meaning.specs.Shape.{shape_faults}
+use Rattle.phase_faults.specs.Keys.{IsLeastKey}
 use Rattle.row_columns.specs.TokensOf.{no_token}
 use Rattle.row_columns.specs.Stretches.{tree_marks}
 use Rattle.tree_passes.proofs.LaidRows.{lows_as_many}
-use Rattle.tree_passes.proofs.TreeFaults.{least_is, numbers_fit}
+use Rattle.tree_passes.proofs.TreeTokens.{numbers_fit}
 use Rattle.tree_passes.proofs.TreeRows.{rows_few}
 use Rattle.tree_passes.proofs.tree.rows.Goals as goal
 
@@ -36,23 +38,13 @@ answer-requires-clause-lows g c =
     let known = c.in_ok-columns.ensures r is in
     lows_as_many (tree_marks r) c.in_ok-columns.columns.kinds.items c.in_ok-columns.columns.lows.items c.in_ok-columns.columns.tokens.items known
 
-pub answer-requires-clause-known : goal.answer-requires-clause-known
-answer-requires-clause-known g c =
-    let r = c.requires.parsed.0 in
-    let is = c.requires.parsed.1 in
-    let known = c.in_ok-columns.ensures r is in
-    let small = c.stretches_are_rows.ensures.small r c.args.text.now is.0 c.requires.lexical c.requires.small in
-    let tells = c.walks_give_rows.ensures.faults r no_token (numbers_fit (tree_marks r) small) in
-    let least = c.in_ok-found.ensures.least ∙ c.stretches_tell_faults.ensures.whole (tree_marks r) c.in_ok-columns.columns.kinds.items c.in_ok-columns.columns.lows.items c.in_ok-columns.columns.tokens.items (c.stretches_are_rows.ensures.fit no_token (left_parse r) (leaves r)) small known in
-    (r, least_is r (tree_marks r) c.in_ok-found.found.least small tells least)
-
 pub returns-clause-ok : goal.returns-clause-ok
 returns-clause-ok g c = if_ok c.answer.result c.answer.ensures.ok (λ v h r is.
     let known = c.in_ok-columns.ensures r is in
     let small = c.stretches_are_rows.ensures.small r c.args.text.now is.0 c.requires.lexical c.requires.small in
     let tells = c.walks_give_rows.ensures.faults r no_token (numbers_fit (tree_marks r) small) in
     let least = c.in_ok-found.ensures.least ∙ c.stretches_tell_faults.ensures.whole (tree_marks r) c.in_ok-columns.columns.kinds.items c.in_ok-columns.columns.lows.items c.in_ok-columns.columns.tokens.items (c.stretches_are_rows.ensures.fit no_token (left_parse r) (leaves r)) small known in
-    let a = h r known small (least_is r (tree_marks r) c.in_ok-found.found.least small tells least) in
+    let a = h r known small (subst (IsLeastKey (shape_faults (ast r))) (sym least) tells) in
     (a.0, a.1 ∙ sym (c.walks_give_rows.ensures.rows r no_token)))
 
 pub returns-clause-fault : goal.returns-clause-fault
@@ -61,4 +53,4 @@ returns-clause-fault g c = λ code at e r is.
     let small = c.stretches_are_rows.ensures.small r c.args.text.now is.0 c.requires.lexical c.requires.small in
     let tells = c.walks_give_rows.ensures.faults r no_token (numbers_fit (tree_marks r) small) in
     let least = c.in_ok-found.ensures.least ∙ c.stretches_tell_faults.ensures.whole (tree_marks r) c.in_ok-columns.columns.kinds.items c.in_ok-columns.columns.lows.items c.in_ok-columns.columns.tokens.items (c.stretches_are_rows.ensures.fit no_token (left_parse r) (leaves r)) small known in
-    c.answer.ensures.fault code at e r (least_is r (tree_marks r) c.in_ok-found.found.least small tells least)
+    c.answer.ensures.fault code at e r (subst (IsLeastKey (shape_faults (ast r))) (sym least) tells)

@@ -1,0 +1,9 @@
+pub mod Printing
+pub mod Named
+pub mod SameScope
+pub mod Called
+pub mod Numbered
+pub mod Laid
+pub mod Onwards
+pub mod AtOnce
+pub mod Steps

@@ -1,0 +1,6 @@
+use Rattle.tree_interpreter.specs.Trees.{expr_of}
+use Rattle.tree_interpreter.proofs.Steps.{at_once}
+use Rattle.tree_interpreter.proofs.interpreter.Walker.decide.Goals as goal
+
+pub returns-in-Some : goal.returns-in-Some
+returns-in-Some c = at_once c.args.self.now _ _ (expr_of c.args.condition.now) _ c.in-Some.value (rw c.in-Some.is at c.simple.ensures) c.run_if.ensures

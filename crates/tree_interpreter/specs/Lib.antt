@@ -1,0 +1,9 @@
+pub mod Trees
+pub mod Counts
+pub mod Running
+pub mod Resuming
+pub mod Weights
+pub mod Parts
+pub mod Numbering
+pub mod Laying
+pub mod Walking
