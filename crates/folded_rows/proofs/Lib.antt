@@ -1,0 +1,11 @@
+pub mod Along
+pub mod FoldedNodes
+pub mod FoldedMarks
+pub mod Picked
+pub mod Sound
+pub mod Tables
+pub mod Stays
+pub mod FoldedRows
+pub mod Left
+pub mod FoldedNames
+pub mod Heights

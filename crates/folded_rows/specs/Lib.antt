@@ -1,0 +1,4 @@
+pub mod Columns
+pub mod Nodes
+pub mod Levels
+pub mod Worked

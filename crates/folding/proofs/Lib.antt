@@ -1,0 +1,9 @@
+pub mod Shrinks
+pub mod Kept
+pub mod Words
+pub mod Sites
+pub mod Shapes
+pub mod Scopes
+pub mod Types
+pub mod Complete
+pub mod Uses
