@@ -1,8 +1,9 @@
 -- What the compiler says of a source, phase by phase.
-use Rattle.std.proofs.Common.{◌≡◌, ℕ, ◌*◌, ◌<◌, ◌≤◌, Bool, true, false, List, [], length, Option, Some, None, if◌then◌else◌, nat_lt, refl, sym, ap, subst, ◌∙◌, arith}
+use Rattle.std.proofs.Common.{◌≡◌, ℕ, ◌*◌, ◌<◌, ◌≤◌, true, false, List, [], length, Option, Some, None, if◌then◌else◌, nat_lt, refl, ap, subst, ◌∙◌, arith}
 use Rattle.std.proofs.lemmas.Bool.Decides.{nat_tests}
 use Rattle.std.specs.List.{find}
-use Rattle.source_meaning.specs.Lexemes.{Token, tokens, lexical_fault, place_of}
+use Rattle.limits.specs.Limits.{most_source, most_frame, most_code}
+use Rattle.source_meaning.specs.Lexemes.{tokens, lexical_fault, place_of}
 use Rattle.source_meaning.specs.Grammar.{Tree, Prog, ast, leaves}
 use Rattle.source_meaning.specs.Ast.{Program, Function}
 use Rattle.source_meaning.specs.Scope.{Fault, scope_faults, earliest}
@@ -10,7 +11,7 @@ use Rattle.source_meaning.specs.Shape.{shape_faults}
 use Rattle.source_meaning.specs.Typing.{type_faults}
 use Rattle.source_meaning.specs.Frames.{frame}
 use Rattle.rv_code.specs.Code.{instructions}
-use Rattle.verdict.specs.Verdict.{Verdict, Diagnosed, Limited, Accepted, IsVerdict, parsed, judged, unless_fault, limits, code_limit, most_source, most_frame, most_code}
+use Rattle.verdict.specs.Verdict.{Verdict, Diagnosed, Limited, Accepted, IsVerdict, parsed, unless_fault, limits}
 
 abbrev phases : List ℕ → Option Fault → Option Fault → Option Fault → Verdict → Verdict
 phases text shape scope typing last = let ts = tokens text in unless_fault text ts shape (unless_fault text ts scope (unless_fault text ts typing last))

@@ -1,6 +1,7 @@
 -- What the front of the compiler finds of a source: its tokens, the rows of its syntax tree, what its names mean and the types of its
 -- expressions; or its first diagnostic, where that is of the phases up to types.
 use Rattle.std.specs.Prelude.{◌≡◌, ℕ, ◌≤◌, List, [], length, map, None, slice_index_or}
+use Rattle.limits.specs.Limits.{most_source}
 use Rattle.ast_rows.specs.TokenRows.{TokenRow, row_of}
 use Rattle.ast_rows.specs.NameRows.{NameRows}
 use Rattle.source_meaning.specs.Ast.{Program}
@@ -11,7 +12,7 @@ use Rattle.source_meaning.specs.Shape.{shape_faults}
 use Rattle.source_meaning.specs.Scope.{scope_faults}
 use Rattle.source_meaning.specs.Typing.{type_faults, types}
 use Rattle.row_rules.specs.Means.{AreNames}
-use Rattle.verdict.specs.Verdict.{IsVerdict, Diagnosed, Limited, most_source}
+use Rattle.verdict.specs.Verdict.{IsVerdict, Diagnosed, Limited}
 use Rattle.front_end.specs.declared.analysis.Analysis.{Analysis}
 use Rattle.front_end.specs.declared.refusal.Refusal.{Refusal}
 use Rattle.front_end.specs.declared.refusal.Refusal.TheVariants.{Diagnostic, Limit, NoMemory}

@@ -1,10 +1,10 @@
 //! What is known of a source before its code is made.
 ghost use Rattle.std.specs.Prelude.{◌≤◌, length, IfOk, IfErr};
+ghost use Rattle.limits.specs.Limits.{most_source};
 ghost use Rattle.grammar_file.specs.Spelling.{IsReduced};
 ghost use Rattle.llp_tables.specs.EntryTable.{AreTablesOf};
 ghost use Rattle.source_meaning.specs.Grammar.{Tree, Prog, grammar};
-ghost use Rattle.tree_passes.specs.TreeColumns.{IsParseOf};
-ghost use Rattle.front_end.specs.Front.{AreTokens, IsAnalysis, IsRefusedBy};
+ghost use Rattle.front_end.specs.Front.{AreTokens, AreRows, IsAnalysis, IsRefusedBy};
 
 use crate::phases::{lexed, named, parsed, shaped, typed};
 use crate::refusal::Refusal;
@@ -30,20 +30,31 @@ pub struct Analysis {
     pub types: Types,
 }
 
-// The phases behind the parser.
-fn meant(
+// The rows of the source's syntax tree. Its left parse, which is longer, ends here.
+fn tree(
     crew: &impl Passes,
+    tables: &Tables,
     source: &[u8],
-    tokens: Tokens,
-    productions: &[u16],
-) -> Result<Analysis, Refusal>
+    tokens: &Tokens,
+) -> Result<Rows, Refusal>
+    requires tables { AreTablesOf grammar tables.now }
+    requires reduced { IsReduced grammar }
+    requires lexed { AreTokens source.now tokens.now }
+    ensures ok { IfOk result (λ v. (t : Tree Prog) × AreRows source.now v t) }
+    ensures refused { IfErr result (IsRefusedBy source.now) }
+{
+    let productions = parsed(crew, tables, source, tokens)?;
+    shaped(crew, source, tokens, &productions)
+}
+
+// The phases behind the rows.
+fn meant(crew: &impl Passes, source: &[u8], tokens: Tokens, rows: Rows) -> Result<Analysis, Refusal>
     requires lexed { AreTokens source.now tokens }
-    requires parsed { (t : Tree Prog) × IsParseOf source.now productions.now t }
+    requires shaped { (t : Tree Prog) × AreRows source.now rows t }
     ensures ok { IfOk result (λ f. (t : Tree Prog) × IsAnalysis source.now t f) }
     ensures refused { IfErr result (IsRefusedBy source.now) }
 {
     rows_are_few();
-    let rows = shaped(crew, source, &tokens, productions)?;
     let names = named(crew, source, &tokens, &rows)?;
     let types = typed(crew, source, &tokens, &rows, &names)?;
     Ok(Analysis {
@@ -56,7 +67,7 @@ fn meant(
 
 // The parse tables of the language, made in one thread, and the tokens of the source, in another one.
 fn tables_beside_tokens<C: Passes>(crew: &C, source: &[u8]) -> Result<(Tables, Tokens), Refusal>
-    requires fits { length source.now ≤ 1048576 }
+    requires fits { length source.now ≤ most_source }
     ensures ok { IfOk result (λ b. AreTablesOf grammar b.0 × IsReduced grammar × AreTokens source.now b.1) }
     ensures refused { IfErr result (IsRefusedBy source.now) }
 {
@@ -67,7 +78,7 @@ fn tables_beside_tokens<C: Passes>(crew: &C, source: &[u8]) -> Result<(Tables, T
             ensures { IfOk result (λ t. AreTablesOf grammar t × IsReduced grammar) }
         { language_tables(alloc) },
         move || -> Result<Tokens, Refusal>
-            requires { length source.now ≤ 1048576 }
+            requires { length source.now ≤ most_source }
             ensures ok { IfOk result (λ t. AreTokens source.entry.now t) }
             ensures refused { IfErr result (IsRefusedBy source.entry.now) }
         { lexed(crew, source) },
@@ -77,7 +88,7 @@ fn tables_beside_tokens<C: Passes>(crew: &C, source: &[u8]) -> Result<(Tables, T
 
 // The parse tables of the language and the tokens of the source, one after the other where there is one worker.
 fn tables_and_tokens<C: Passes>(crew: &C, source: &[u8]) -> Result<(Tables, Tokens), Refusal>
-    requires fits { length source.now ≤ 1048576 }
+    requires fits { length source.now ≤ most_source }
     ensures ok { IfOk result (λ b. AreTablesOf grammar b.0 × IsReduced grammar × AreTokens source.now b.1) }
     ensures refused { IfErr result (IsRefusedBy source.now) }
 {
@@ -91,13 +102,13 @@ fn tables_and_tokens<C: Passes>(crew: &C, source: &[u8]) -> Result<(Tables, Toke
 
 // The phases of a source that isn't too large.
 fn parts(crew: &impl Passes, source: &[u8]) -> Result<Analysis, Refusal>
-    requires fits { length source.now ≤ 1048576 }
+    requires fits { length source.now ≤ most_source }
     ensures ok { IfOk result (λ f. (t : Tree Prog) × IsAnalysis source.now t f) }
     ensures refused { IfErr result (IsRefusedBy source.now) }
 {
     let (tables, tokens) = tables_and_tokens(crew, source)?;
-    let productions = parsed(crew, &tables, source, &tokens)?;
-    meant(crew, source, tokens, productions.as_slice())
+    let rows = tree(crew, &tables, source, &tokens)?;
+    meant(crew, source, tokens, rows)
 }
 
 /// The tokens, rows, names and types of a source that has no diagnostic of the phases up to types; or its first diagnostic, where it has

@@ -1,6 +1,7 @@
 //! What the compiler says of a source, phase by phase: a law, the contract of a function that does nothing.
 ghost use Rattle.std.specs.Prelude.{◌≡◌, ℕ, ◌*◌, ◌<◌, ◌≤◌, List, [], length, Some, None, nat_lt};
 ghost use Rattle.std.specs.List.{find};
+ghost use Rattle.limits.specs.Limits.{most_frame, most_code};
 ghost use Rattle.source_meaning.specs.Lexemes.{tokens, lexical_fault, place_of};
 ghost use Rattle.source_meaning.specs.Grammar.{Tree, Prog, ast, leaves};
 ghost use Rattle.source_meaning.specs.Ast.{Function as SourceFunction};
@@ -10,7 +11,7 @@ ghost use Rattle.source_meaning.specs.Typing.{type_faults};
 ghost use Rattle.source_meaning.specs.Frames.{frame};
 ghost use Rattle.rv_code.specs.Code.{instructions};
 ghost use Rattle.front_end.specs.Front.{IsChecked};
-ghost use Rattle.verdict.specs.Verdict.{IsVerdict, Limited, Accepted, most_frame, most_code};
+ghost use Rattle.verdict.specs.Verdict.{IsVerdict, Limited, Accepted};
 
 /// Of a source without a fault of the phases up to types: the first function whose frame is too large is its limit, else code that is
 /// too large, and else it is a program.

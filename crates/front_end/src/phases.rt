@@ -1,5 +1,6 @@
 //! The phases of the front, each with what its fault says of the source.
 ghost use Rattle.std.specs.Prelude.{◌≡◌, [], ◌≤◌, ◌<◌, ◌^◌, length, map, None, IfOk, IfErr};
+ghost use Rattle.limits.specs.Limits.{most_source, most_rows};
 ghost use Rattle.source_meaning.specs.Lexemes.{tokens as tokens_of};
 ghost use Rattle.source_meaning.specs.Grammar.{Tree, Prog, ast, grammar};
 ghost use Rattle.source_meaning.specs.Scope.{scope_faults};
@@ -16,27 +17,30 @@ use ast_rows::{Names, Rows, Tokens, Types};
 use grammar_file::spelled_grammars_are_well_formed;
 use llp_glue::{ParseFault, parse};
 use llp_tables::Tables;
-use name_pass::{NameFault, programs_are_formed, resolve};
-use par_lexer::{LexFault, lex};
+use name_pass::{programs_are_formed, resolve};
+use par_lexer::lex;
 use par_passes::Passes;
+use phase_faults::PhaseFault;
 use source_meaning::{derivations_have_trees, grammar_is_spelled};
-use tree_passes::{ShapeFault, rows};
-use type_pass::{TypeFault, check};
+use tree_passes::rows;
+use type_pass::check;
 
 /// The tokens of the source.
+#[inline(never)]
 pub fn lexed(crew: &impl Passes, source: &[u8]) -> Result<Tokens, Refusal>
-    requires fits { length source.now ≤ 1048576 }
+    requires fits { length source.now ≤ most_source }
     ensures ok { IfOk result (λ t. AreTokens source.now t) }
     ensures refused { IfErr result (IsRefusedBy source.now) }
 {
     match lex(crew, source) {
         Ok(tokens) => Ok(tokens),
-        Err(LexFault::Diagnostic { code, at }) => Err(Refusal::Diagnostic { code, at }),
-        Err(LexFault::NoMemory) => Err(Refusal::NoMemory),
+        Err(PhaseFault::Diagnostic { code, at }) => Err(Refusal::Diagnostic { code, at }),
+        Err(PhaseFault::NoMemory) => Err(Refusal::NoMemory),
     }
 }
 
 /// The left parse of the source's tokens.
+#[inline(never)]
 pub fn parsed(
     crew: &impl Passes,
     tables: &Tables,
@@ -64,6 +68,7 @@ pub fn parsed(
 }
 
 /// The rows of the source's syntax tree.
+#[inline(never)]
 pub fn shaped(
     crew: &impl Passes,
     source: &[u8],
@@ -77,15 +82,16 @@ pub fn shaped(
 {
     match rows(crew, source, tokens, productions) {
         Ok(rows) => Ok(rows),
-        Err(ShapeFault::Diagnostic { code, at }) => Err(Refusal::Diagnostic {
+        Err(PhaseFault::Diagnostic { code, at }) => Err(Refusal::Diagnostic {
             code,
             at: place(source, tokens, u64::from(at)),
         }),
-        Err(ShapeFault::NoMemory) => Err(Refusal::NoMemory),
+        Err(PhaseFault::NoMemory) => Err(Refusal::NoMemory),
     }
 }
 
 /// What the source's names mean.
+#[inline(never)]
 pub fn named(
     crew: &impl Passes,
     source: &[u8],
@@ -102,15 +108,16 @@ pub fn named(
     programs_are_formed();
     match resolve(crew, source, tokens, rows) {
         Ok(names) => Ok(names),
-        Err(NameFault::Diagnostic { code, at }) => Err(Refusal::Diagnostic {
+        Err(PhaseFault::Diagnostic { code, at }) => Err(Refusal::Diagnostic {
             code,
             at: place(source, tokens, u64::from(at)),
         }),
-        Err(NameFault::NoMemory) => Err(Refusal::NoMemory),
+        Err(PhaseFault::NoMemory) => Err(Refusal::NoMemory),
     }
 }
 
 /// The types of the source's expressions.
+#[inline(never)]
 pub fn typed(
     crew: &impl Passes,
     source: &[u8],
@@ -119,7 +126,7 @@ pub fn typed(
     names: &Names,
 ) -> Result<Types, Refusal>
     requires lexed { AreTokens source.now tokens.now }
-    requires few { length rows.now ≤ 2 ^ 25 }
+    requires few { length rows.now ≤ most_rows }
     ensures typed { IfOk result (λ v. (t : Tree Prog) → AreRows source.now rows.now t → AreNamesOf names.now (ast t) → type_faults (ast t) ≡ []) }
     ensures types { IfOk result (λ v. (t : Tree Prog) → AreRows source.now rows.now t → AreNamesOf names.now (ast t) → v ≡ types (ast t)) }
     ensures refused { (t : Tree Prog) → AreRows source.now rows.now t → scope_faults (length (tokens_of source.now)) (ast t) ≡ [] → AreNamesOf names.now (ast t)
@@ -127,10 +134,10 @@ pub fn typed(
 {
     match check(crew, rows, names) {
         Ok(types) => Ok(types),
-        Err(TypeFault::Diagnostic { code, at }) => Err(Refusal::Diagnostic {
+        Err(PhaseFault::Diagnostic { code, at }) => Err(Refusal::Diagnostic {
             code,
             at: place(source, tokens, u64::from(at)),
         }),
-        Err(TypeFault::NoMemory) => Err(Refusal::NoMemory),
+        Err(PhaseFault::NoMemory) => Err(Refusal::NoMemory),
     }
 }

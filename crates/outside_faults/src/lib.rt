@@ -1,5 +1,5 @@
-//! Faults of the outside and damaged files, as tables of rows: what each command answers where one of its reads or writes fails, and what is
-//! told of images that can't be loaded and of files that spell no grammar; and streams that fail.
+//! Faults of the outside and damaged files, as tables of rows: what each command answers where one of its reads or writes fails, and what it
+//! says of images that can't be loaded and of files that spell no grammar; and streams that fail.
 #![tactic(auto)]
 
 #[cfg(test)]

@@ -104,7 +104,7 @@ fn expect_reads<R: Threads + Abort + Sync>(
     Ok(())
 }
 
-const MOST_SOURCE: usize = 1_048_576;
+const MOST_SOURCE: usize = 16_777_216;
 
 const MOST_IMAGE: usize = 67_108_864;
 
@@ -122,19 +122,19 @@ const INPUTS: &[Spaces] = &[
     },
     Spaces {
         command: "build",
-        count: 1_048_577,
+        count: 16_777_217,
         limit: MOST_SOURCE,
         step: 4096,
-        reads: 257,
-        notes: b"limit 601 at 1:1048577\n",
+        reads: 4097,
+        notes: b"limit 601 at 1:16777217\n",
     },
     Spaces {
         command: "run",
-        count: 1_048_600,
+        count: 16_777_240,
         limit: MOST_SOURCE,
         step: 1000,
-        reads: 1049,
-        notes: b"limit 601 at 1:1048577\n",
+        reads: 16_778,
+        notes: b"limit 601 at 1:16777217\n",
     },
     Spaces {
         command: "emu",

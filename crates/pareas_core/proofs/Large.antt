@@ -1,22 +1,24 @@
 -- The first frame that is too large, and frames where there is none.
-use Rattle.std.proofs.Common.{◌≡◌, ℕ, zero, suc, ◌<◌, ◌≤◌, Bool, true, false, List, [], ◌∷◌, length, Option, Some, None, nat_lt, if◌then◌else◌, refl, ap, arith}
+use Rattle.std.proofs.Common.{◌≡◌, ℕ, zero, suc, ◌<◌, ◌≤◌, Bool, true, false, List, [], ◌∷◌, length, Option, Some, None, nat_lt, if◌then◌else◌, refl, sym, ap, subst, arith}
 use Rattle.std.specs.Prelude.{option_map}
 use Rattle.std.specs.List.{find}
 use Rattle.std.proofs.lemmas.Bool.Decides.{nat_tests}
+use Rattle.limits.specs.Limits.{most_frame}
 use Rattle.source_meaning.specs.Ast.{Function, Program}
 use Rattle.source_meaning.specs.Frames.{Frame, frame}
 use Rattle.source_meaning.specs.Grammar.{Tree, Prog, ast}
 use Rattle.source_meaning.specs.Lexemes.{tokens}
-use Rattle.source_meaning.specs.Rows.{post}
+use Rattle.source_meaning.specs.Rows.{Row, post}
+use Rattle.ast_rows.specs.NameRows.{NameRows}
 use Rattle.row_rules.specs.Steps.{kind_at}
 use Rattle.code_rules.specs.Reach.{IsSmall}
 use Rattle.code_rules.specs.RowTables.{frame_in}
 use Rattle.front_end.specs.declared.analysis.Analysis.{Analysis}
 use Rattle.rv_emit.specs.Compilable.{IsCompilable}
-use Rattle.pareas_core.specs.Coded.{AreFrames}
+use Rattle.pareas_core.specs.Coded.{AreFrames, AreLeft}
 
 abbrev large : Function → Bool
-large f = nat_lt 2032 (frame f).bytes
+large f = nat_lt most_frame (frame f).bytes
 
 abbrev told : Function → ℕ × ℕ
 told f = (f.at, (frame f).bytes)
@@ -36,7 +38,7 @@ first_not f fs e = go (large f) e
     go true h = absurd (cc)
     go false h = (refl, h)
 
-pub frames_small : (p : Program) → find large p ≡ None → (j : ℕ) → j < length p → (frame_in p j).bytes ≤ 2032
+pub frames_small : (p : Program) → find large p ≡ None → (j : ℕ) → j < length p → (frame_in p j).bytes ≤ most_frame
 frames_small [] e j h = absurd (omega arith)
 frames_small (f ∷ fs) e zero h = let b = (first_not f fs e).0 in grind (arith, nat_tests)
 frames_small (f ∷ fs) e (suc j) h = frames_small fs (first_not f fs e).1 j (omega arith)
@@ -55,3 +57,10 @@ compilable text a deep frames t f small = record {
   depths_are = f.depths_are;
   frames_are = f.frames_are;
 }
+
+pub compilable_left : (text : List ℕ) (rows : List Row) (names : NameRows) (deep : List ℕ) (frames : List Frame) (t : Tree Prog) (left : AreLeft text rows names deep frames t) → ((k : ℕ) → k < length (post (ast t)) → IsSmall (kind_at (ast t) k))
+    → IsCompilable (ast t) rows names deep frames
+compilable_left text rows names deep frames t left small =
+    let a = left.0 in
+    subst (λ (rs : List Row). IsCompilable (ast t) rs names deep frames) (sym left.2)
+    (subst (λ (ns : NameRows). IsCompilable (ast t) a.rows ns deep frames) (sym left.3) (compilable text a deep frames t left.1 small))

@@ -16,7 +16,7 @@ use Rattle.elf_file.specs.Image.{elf}
 use Rattle.elf_file.specs.declared.fault.ElfFault.{ElfFault}
 use Rattle.elf_text.specs.Listing.{dumped, file_of_text}
 use Rattle.rv_text.specs.declared.fault.AsmFault.{AsmFault}
-use Rattle.rv_code.specs.Code.{words}
+use Rattle.rv_code.specs.Code.{Layout, most_long, layout_of, words}
 use Rattle.rv32_emul.specs.Machine.{Outcome, Course, Exits, Faults, More, machine}
 use Rattle.simulation.specs.Behaves.{Behaves, IsFaulty, Overruns}
 use Rattle.table_text.specs.Answers.{IsTableAnswer}
@@ -24,7 +24,8 @@ use Rattle.table_text.specs.declared.answer.TableAnswer.{TableAnswer}
 use Rattle.table_text.specs.declared.answer.TableAnswer.TheVariants as answers
 use Rattle.pareas_core.specs.Output.{Due, done, due_of_verdict, due_of_machine, due_of_dump, due_of_asm, due_of_drill, drill_lines, drill_steps, due_of_table, status_of, IsDue, built, ran, emulated, listed, assembled, tabled, drilled}
 use Rattle.pareas_core.specs.Reading.{ReadsUpTo, WritesPrefix}
-use Rattle.pareas_core.specs.Headline.{CompilesTo, RunsAs, Runs, what_was_read, what_was_made, HasRun, HasRead, IsToldOf, reads, most_bytes, read_by, End, HasFailed, HasWorked, GotPrefix, IsWritten, IsAnswer, MeetsWords, IsResponse, IsDelivered, whole, broken_off}
+use Rattle.pareas_core.specs.Headline.{CompilesTo, RunsAs, Runs, what_was_read, what_was_made, HasRun, reads, most_bytes, read_by, End, HasFailed, HasWorked, GotPrefix, IsWritten, IsAnswer, MeetsWords}
+use Rattle.pareas_core.specs.Responses.{HasRead, IsToldOf, IsResponse, IsDelivered, whole, broken_off}
 
 -- ---- what is due
 
@@ -139,8 +140,8 @@ faulty lines file steps h = go (machine file steps) refl h
     go (Err fault) e h = cc
 
 -- a program whose image is faulty overruns its stack
-overrun : (p : Program) (file : List ℕ) (m : ℕ) → Behaves p file → ((printed : List ℕ) × IsFaulty file m printed) → (printed : List ℕ) × Overruns p file m printed
-overrun p file m behaves (printed, faulty) = (printed, (behaves.overruns_only m printed faulty).0)
+overrun : (layout : Layout) (p : Program) (file : List ℕ) (m : ℕ) → Behaves layout p file → ((printed : List ℕ) × IsFaulty file m printed) → (printed : List ℕ) × Overruns layout p file m printed
+overrun layout p file m behaves (printed, faulty) = (printed, (behaves.overruns_only m printed faulty).0)
 
 -- a command runs the program of this text alone, and for so many steps
 abbrev pub RunsOnly : Command → List ℕ → List ℕ → ℕ → Type 0
@@ -158,7 +159,8 @@ module _ (c : Command) (bytes text : List ℕ) (before : List ℕ → List ℕ) 
   pub run_through : (file : List ℕ) (d : Due) → CompilesTo text file → d ≡ due_of_machine (before file) (machine file steps) → IsResponse c bytes d
   run_through file d k is =
       let same : running before steps k.program ≡ d = ap (λ f. due_of_machine (before f) (machine f steps)) (sym k.is_image) ∙ sym is in
-      let behaves : Behaves k.program (image k.program) = subst (Behaves k.program) k.is_image k.behaves in
+      let layout = layout_of k.program in
+      let behaves : Behaves layout k.program (image k.program) = subst (Behaves layout k.program) k.is_image k.behaves in
       record {
         due = subst (IsDue c bytes) same (by.due (Accepted k.program) k.accepted);
         only = no_other c bytes text (running before steps) by one (Accepted k.program) d k.accepted (sym same);
@@ -169,8 +171,8 @@ module _ (c : Command) (bytes text : List ℕ) (before : List ℕ → List ℕ) 
               program = k.program;
               accepted = k.accepted;
               behaves = behaves;
-              overran = λ fault. subst (λ n. (printed : List ℕ) × Overruns k.program (image k.program) n printed) (sym it.1)
-                  (overrun k.program (image k.program) steps behaves
+              overran = λ fault. subst (λ n. (printed : List ℕ) × Overruns layout k.program (image k.program) n printed) (sym it.1)
+                  (overrun layout k.program (image k.program) steps behaves
                   (faulty (before (image k.program)) (image k.program) steps (ap (λ (d : Due). d.status) same ∙ fault)));
             });
       }
@@ -231,7 +233,7 @@ assembles bytes d is = record {
 
 -- the listing of an image gives the image again, by the laws of listings and of accepted sources
 pub listed_and_assembled : ((ws : List ℕ) → 0 < length ws → length ws ≤ 4194304 → (text : List ℕ) × (dumped (elf ws) ≡ Ok text) × (file_of_text text ≡ Ok (elf ws)))
-    → ((text : List ℕ) (p : Program) → IsVerdict text (Accepted p) → (0 < length (words p)) × (length (words p) ≤ 262144))
+    → ((text : List ℕ) (p : Program) → IsVerdict text (Accepted p) → (0 < length (words p)) × (length (words p) ≤ most_long))
     → (source file : List ℕ) → CompilesTo source file → (text : List ℕ) × IsDue Dump file (done text) × IsDue Asm text (done file)
 listed_and_assembled again fits source file k =
     let few = fits source k.program k.accepted in

@@ -1,6 +1,8 @@
 -- What the compiler and the program answer.
-use Rattle.std.specs.Prelude.{◌≡◌, ◌≢◌, ℕ, ◌+◌, ◌⊎◌, Bool, true, false, List, [], ◌++◌, length, take, drop, Option, Some, None, codes, if◌then◌else◌}
-use Rattle.verdict.specs.Verdict.{Accepted, IsVerdict, image, most_source}
+use Rattle.std.specs.Prelude.{◌≡◌, ◌≢◌, ℕ, ◌+◌, ◌⊎◌, Bool, true, false, List, [], ◌++◌, length, take, drop, Option, Some, None, if◌then◌else◌}
+use Rattle.limits.specs.Limits.{most_source}
+use Rattle.verdict.specs.Verdict.{Accepted, IsVerdict, image}
+use Rattle.rv_code.specs.Code.{layout_of}
 use Rattle.simulation.specs.Behaves.{Behaves, Overruns}
 use Rattle.source_meaning.specs.Ast.{Program}
 use Rattle.pareas_core.specs.declared.status.Status.{Status}
@@ -10,9 +12,7 @@ use Rattle.command_line.specs.declared.command.Command.{Command}
 use Rattle.command_line.specs.declared.command.Command.TheVariants.{Build, Run, Emu, Dump, Asm, Table, Drill}
 use Rattle.elf_file.specs.Load.{most as most_image}
 use Rattle.drill_source.specs.Drill.{drill_text}
-use Rattle.pareas_core.specs.Output.{Due, IsDue, at_place, drill_steps, noted}
-use Rattle.front_end.specs.declared.refusal.Refusal.{Refusal}
-use Rattle.front_end.specs.declared.refusal.Refusal.TheVariants.{Diagnostic, Limit, NoMemory}
+use Rattle.pareas_core.specs.Output.{Due, IsDue, drill_steps}
 
 -- ---- the compiler
 
@@ -21,7 +21,7 @@ pub record CompilesTo (source file : List ℕ) : Type 0 where
   pub program : Program
   pub accepted : IsVerdict source (Accepted program)
   pub is_image : file ≡ image program
-  pub behaves : Behaves program file
+  pub behaves : Behaves (layout_of program) program file
 
 -- ---- the program
 
@@ -30,8 +30,8 @@ pub record CompilesTo (source file : List ℕ) : Type 0 where
 pub record RunsAs (source : List ℕ) (steps : ℕ) (status : Status) : Type 0 where
   pub program : Program
   pub accepted : IsVerdict source (Accepted program)
-  pub behaves : Behaves program (image program)
-  pub overran : status ≡ statuses.Machine → (printed : List ℕ) × Overruns program (image program) steps printed
+  pub behaves : Behaves (layout_of program) program (image program)
+  pub overran : status ≡ statuses.Machine → (printed : List ℕ) × Overruns (layout_of program) program (image program) steps printed
 
 -- the most bytes of a grammar file
 abbrev pub most_grammar : ℕ
@@ -132,27 +132,3 @@ pub record MeetsWords (words : Option Command) (input out notes : End) (status :
       IsDue c (read_by c bytes) d → GotPrefix out d.out × GotPrefix notes d.notes
   -- after a failed read, or out of memory, nothing was written
   pub nothing : (status ≡ statuses.ReadFault) ⊎ (status ≡ statuses.NoMemory) → Got out [] × Got notes []
-
--- ---- on the way
-
--- what is due for the bytes that were read, and that nothing else is; what is built behaves
-pub record IsResponse (c : Command) (bytes : List ℕ) (d : Due) : Type 0 where
-  pub due : IsDue c bytes d
-  pub only : (e : Due) → IsDue c bytes e → e ≡ d
-  pub built : c ≡ Build → d.status ≡ statuses.Done → CompilesTo bytes d.out
-  pub ran : (source : List ℕ) (steps : ℕ) → Runs c bytes source steps → HasRun d.status → RunsAs source steps d.status
-
--- an input that tells its bytes has lost those that the command reads
-abbrev pub HasRead : Command → Option (List ℕ) → Option (List ℕ) → List ℕ → Type 0
-HasRead c before after bytes = (all : List ℕ) → before ≡ Some all → (bytes ≡ read_by c all) × (after ≡ Some (drop (length (read_by c all)) all))
-
--- the line of a source that has no image
-abbrev pub IsToldOf : List ℕ → Refusal → Due → Type 0
-IsToldOf text (Diagnostic code at) d = d ≡ noted statuses.Refused (codes "error " ++ at_place text code at)
-IsToldOf text (Limit code at bytes) d = d ≡ noted statuses.Limit (codes "limit " ++ at_place text code at)
-IsToldOf text NoMemory d = ⊥
-
--- a response was written whole, or a write failed behind a prefix of it
-pub data IsDelivered (d : Due) (out notes : End) : Status → Type 0 where
-  whole : IsWritten d.status out notes d → out.faults_after ≡ out.faults_before → notes.faults_after ≡ notes.faults_before → IsDelivered d out notes d.status
-  broken_off : HasFailed out ⊎ HasFailed notes → GotPrefix out d.out → GotPrefix notes d.notes → IsDelivered d out notes statuses.WriteFault

@@ -6,3 +6,4 @@ pub mod Reading
 pub mod Output
 pub mod Printing
 pub mod Headline
+pub mod Responses

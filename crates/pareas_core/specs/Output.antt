@@ -130,7 +130,7 @@ due_of_drill text file = due_of_machine (drill_lines text file) (machine file dr
 
 -- ---- the tables of a grammar
 
--- what is told of a grammar file and of a word
+-- the sizes of a grammar and of its tables, and the parse of a word, or why there are none
 abbrev pub due_of_table : TableAnswer → Due
 due_of_table (tables.Tabled text) = done text
 due_of_table (tables.NoGrammar text) = noted BadGrammar text

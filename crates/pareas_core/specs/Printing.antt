@@ -8,7 +8,7 @@ use Rattle.rv32_emul.specs.Machine.{Outcome, run, numbers, outcome_of}
 use Rattle.rv32_emul.specs.Told.{told}
 use Rattle.pareas_core.specs.Output.{number_line}
 
--- the line of the number that an answer tells of
+-- the line of the number that the machine prints, where it has stopped to print one
 abbrev pub answer_lines : Answer → List ℕ
 answer_lines (answer.Print value left) = number_line (word_of value)
 answer_lines (answer.Exit v) = []

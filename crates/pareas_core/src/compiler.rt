@@ -27,10 +27,11 @@ pub(crate) fn compile_counting(crew: &impl Passes, source: &[u8]) -> Result<Comp
 {
     source_behaves();
     let analysis = front(crew, source)?;
-    let words = code(crew, source, &analysis)?;
+    let tokens = analysis.tokens.len();
+    let words = code(crew, source, analysis)?;
     Ok(Compiled {
         file: write(crew.alloc(), &words)?,
-        tokens: analysis.tokens.len(),
+        tokens,
     })
 }
 

@@ -3,7 +3,7 @@
 ghost use Rattle.std.specs.Prelude.{◌≡◌, List, ℕ, length, IfOk};
 ghost use Rattle.command_line.specs.declared.command.Command.TheVariants.{Drill};
 ghost use Rattle.source_meaning.specs.Lexemes.{tokens};
-ghost use Rattle.pareas_core.specs.Headline.{IsResponse};
+ghost use Rattle.pareas_core.specs.Responses.{IsResponse};
 ghost use Rattle.pareas_core.specs.Output.{drill_lines, drill_steps};
 
 use crate::compiler::{Compiled, compile_counting};

@@ -1,11 +1,11 @@
 // The listing of an image, and the image of a listing.
 
-ghost use Rattle.std.specs.Prelude.{◌≡◌, ◌≢◌, false, IfOk};
+ghost use Rattle.std.specs.Prelude.{◌≡◌, ◌≢◌, true, false, IfOk};
 ghost use Rattle.command_line.specs.declared.command.Command.TheVariants.{Asm, Dump};
 ghost use Rattle.rv_text.specs.FaultLines.{line_of_fault};
 ghost use Rattle.rv_text.specs.declared.fault.AsmFault.TheVariants.{NoMemory};
 ghost use Rattle.pareas_core.specs.declared.status.Status.TheVariants.{BadAsm};
-ghost use Rattle.pareas_core.specs.Headline.{IsResponse};
+ghost use Rattle.pareas_core.specs.Responses.{IsResponse};
 ghost use Rattle.pareas_core.specs.Output.{done, noted};
 
 use crate::machine::not_loaded;
@@ -38,7 +38,8 @@ pub(crate) fn dump(alloc: Global, file: &[u8]) -> Result<Response, AllocError>
 }
 
 fn ran_out(fault: &AsmFault) -> bool
-    ensures { result ≡ false → fault.now ≢ NoMemory }
+    ensures yes { result ≡ true → fault.now ≡ NoMemory }
+    ensures no_other { result ≡ false → fault.now ≢ NoMemory }
 {
     matches!(fault, AsmFault::NoMemory)
 }

@@ -106,7 +106,7 @@ pub(crate) fn not_loaded(alloc: Global, fault: ElfFault) -> Result<Response, All
     })
 }
 
-/// Loads the file and runs it for at most so many steps. Behind the lines before stand those of the numbers that the run prints, and then the
+/// Loads the file and runs it for at most `steps` steps. The lines `before` come first, then those of the numbers that the run prints, and then the
 /// machine's line.
 pub(crate) fn emulate(
     alloc: Global,

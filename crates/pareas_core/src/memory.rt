@@ -78,7 +78,7 @@ impl ByteIn for MemoryIn {
     }
 }
 
-/// An output into memory that has room for so many bytes. A write takes at most `step` bytes. Some writes fail, by their
+/// An output into memory, with room for `room` bytes. A write takes at most `step` bytes. Some writes fail, by their
 /// numbers from 1 on, and so does each whose bytes have no room any more, as on a full disk.
 #[derive(Drop)]
 pub struct MemoryOut {
@@ -102,7 +102,7 @@ impl Model for MemoryOut {
 }
 
 impl MemoryOut {
-    /// An output with room for so many bytes, into which nothing was written.
+    /// An output with room for `room` bytes, into which nothing was written.
     pub fn new(
         alloc: Global,
         room: usize,

@@ -2,7 +2,8 @@
 
 ghost use Rattle.std.specs.Prelude.{◌≡◌, true, false, Err, IfOk, map, string_bytes};
 ghost use Rattle.command_line.specs.Words.{command_of};
-ghost use Rattle.pareas_core.specs.Headline.{HasRead, MeetsWords, most_bytes, reads};
+ghost use Rattle.pareas_core.specs.Headline.{MeetsWords, most_bytes, reads};
+ghost use Rattle.pareas_core.specs.Responses.{HasRead};
 ghost use Rattle.pareas_core.specs.Causes.{Rose};
 
 use crate::ends::{ByteIn, ByteOut};
@@ -67,7 +68,7 @@ fn read_for<I: ByteIn>(
 }
 
 /// Does what the words ask for: reads the input, works, and writes to the output, or a line to the notes.
-/// The answer doesn't hang on workers, chunks, the gate or the order in which threads run.
+/// The answer doesn't depend on workers, chunks, the gate or the order in which threads run.
 pub fn pareas<R: Threads + Sync, I: ByteIn, O: ByteOut, E: ByteOut, G: Gate>(
     rt: &R,
     alloc: Global,

@@ -4,7 +4,7 @@ ghost use Rattle.std.specs.Prelude.{◌≡◌, ◌++◌, IfOk, codes};
 ghost use Rattle.command_line.specs.declared.command.Command.TheVariants.{Build, Run};
 ghost use Rattle.pareas_core.specs.declared.status.Status.TheVariants.{Limit, Refused};
 ghost use Rattle.pareas_core.specs.Output.{at_place, noted};
-ghost use Rattle.pareas_core.specs.Headline.{IsDelivered, IsResponse, IsToldOf};
+ghost use Rattle.pareas_core.specs.Responses.{IsDelivered, IsResponse, IsToldOf};
 
 use crate::compiler::compile;
 use crate::drill::drill;
@@ -106,6 +106,7 @@ fn run(crew: &impl Passes, source: &[u8], steps: u32) -> Result<Response, AllocE
 }
 
 /// The answer to a command for the bytes that it read.
+#[inline(never)]
 pub(crate) fn respond(
     crew: &impl Passes,
     command: &Command,

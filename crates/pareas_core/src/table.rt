@@ -3,7 +3,7 @@
 ghost use Rattle.std.specs.Prelude.{◌≡◌, ◌++◌, codes, decimal, IfOk, option_map};
 ghost use Rattle.command_line.specs.declared.command.Command.TheVariants.{Table};
 ghost use Rattle.pareas_core.specs.declared.status.Status.TheVariants.{Refused};
-ghost use Rattle.pareas_core.specs.Headline.{IsResponse};
+ghost use Rattle.pareas_core.specs.Responses.{IsResponse};
 ghost use Rattle.pareas_core.specs.Output.{due_of_table, noted};
 
 use crate::listing::written;

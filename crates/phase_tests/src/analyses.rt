@@ -4,7 +4,7 @@ use chunk_seats::OpenGate;
 use front_end::{Analysis, front};
 use name_pass::resolve;
 use par_passes::Passes;
-use rv_regs::{Frame, FrameError, Frames, depths, frames};
+use rv_regs::{Frame, FrameFault, Frames, depths, frames};
 use source_meaning::ValueType;
 use std::alloc::Global;
 use std::process::Abort;
@@ -113,8 +113,8 @@ const PRINTS: Framed = Framed {
     }],
 };
 
-fn frames_of(crew: &impl Passes, found: &Analysis) -> Result<Result<Frames, FrameError>, Fail> {
-    if found.rows.len() > 2000 {
+fn frames_of(crew: &impl Passes, found: &Analysis) -> Result<Result<Frames, FrameFault>, Fail> {
+    if found.rows.len() > 50_000 {
         return Err("too long".into());
     }
     let deep = depths(crew, &found.rows)?;
@@ -167,7 +167,7 @@ fn declarations<R: Threads + Sync>(
     rt: &R,
     alloc: Global,
     count: u32,
-) -> Result<Result<Option<Frame>, FrameError>, Fail> {
+) -> Result<Result<Option<Frame>, FrameFault>, Fail> {
     let crew = at(rt, alloc, (4, 7), &OpenGate)?;
     let source = many_names(alloc, count)?;
     match frames_of(&crew, &analysed(&crew, &source)?)? {
@@ -178,15 +178,20 @@ fn declarations<R: Threads + Sync>(
 
 #[test]
 fn frames_up_to_the_limit(rt: HostRuntime) -> Result<(), Fail> {
-    let main = Frame {
-        registers: 1,
-        spills: 0,
-        locals: 506,
-        bytes: 2032,
+    for (count, bytes) in [(505, 2032), (506, 2048), (16_377, 65_520)] {
+        let main = Frame {
+            registers: 1,
+            spills: 0,
+            locals: count + 1,
+            bytes,
+        };
+        assert!(rt; declarations(&rt, rt.alloc(), count)? == Ok(Some(main)));
+    }
+    let large = FrameFault::Large {
+        at: 1,
+        bytes: 65_536,
     };
-    assert!(rt; declarations(&rt, rt.alloc(), 505)? == Ok(Some(main)));
-    let large = FrameError::Large { at: 1, bytes: 2048 };
-    assert!(rt; declarations(&rt, rt.alloc(), 506)? == Err(large));
+    assert!(rt; declarations(&rt, rt.alloc(), 16_378)? == Err(large));
     Ok(())
 }
 
@@ -209,17 +214,19 @@ fn pass_is_right(crew: &impl Passes, found: &Analysis, pass: u32) -> Result<bool
     }
 }
 
+// In how many passes of names, types, depths, and depths with frames two workers meet, and in how many one draws alone: of three variables there is one
+// pair, and then of two minima.
+const MEETINGS: [(u64, u64); 4] = [(7, 2), (4, 0), (3, 0), (8, 0)];
+
 #[test]
 fn two_workers_meet_in_each_pass(rt: HostRuntime) -> Result<(), Fail> {
     let before = at(&rt, rt.alloc(), (2, 1), &OpenGate)?;
     let found = analysed(&before, BINDINGS)?;
-    for pass in 0..4 {
+    for (pass, counts) in MEETINGS.iter().enumerate() {
         let gate = Meeting::new();
         let crew = at(&rt, rt.alloc(), (2, 1), &gate)?;
-        assert!(rt;
-            pass_is_right(&crew, &found, pass)? && gate.is_held(),
-            "pass {pass}"
-        );
+        assert!(rt; pass_is_right(&crew, &found, pass as u32)?, "pass {pass}");
+        assert_eq!(rt; gate.counts(), *counts, "pass {pass}");
     }
     Ok(())
 }

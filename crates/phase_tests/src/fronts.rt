@@ -223,7 +223,7 @@ fn spaces_are_refused<R: Threads + Sync>(
 
 #[test]
 fn sources_have_a_limit(rt: HostRuntime) -> Result<(), Fail> {
-    let told = spaces_are_refused(&rt, rt.alloc(), MOST_SOURCE)?;
+    let told = spaces_are_refused(&rt, rt.alloc(), 1_048_576)?;
     let no_main = Refusal::Diagnostic {
         code: 405,
         at: 1_048_576,
@@ -232,8 +232,8 @@ fn sources_have_a_limit(rt: HostRuntime) -> Result<(), Fail> {
     let told = spaces_are_refused(&rt, rt.alloc(), MOST_SOURCE + 1)?;
     let limit = Refusal::Limit {
         code: 601,
-        at: 1_048_576,
-        bytes: 1_048_577,
+        at: 16_777_216,
+        bytes: 16_777_217,
     };
     assert!(rt; told == Some(limit));
     Ok(())

@@ -2,8 +2,9 @@
 ghost use Rattle.std.specs.Prelude.{◌≡◌, ◌≤◌, ◌^◌, length, IfOk};
 
 use chunk_seats::OpenGate;
-use par_lexer::{LexFault, automaton, lex};
+use par_lexer::{automaton, lex};
 use par_passes::Passes;
+use phase_faults::PhaseFault;
 use source_meaning::Terminal;
 use state_monoid::Compositions;
 use std::alloc::{AllocError, Global};
@@ -39,7 +40,7 @@ fn has_fault(crew: &impl Passes, text: &[u8], code: u16, at: u32) -> bool
 {
     match lex(crew, text) {
         Ok(_) => false,
-        Err(fault) => fault == LexFault::Diagnostic { code, at },
+        Err(fault) => fault == PhaseFault::Diagnostic { code, at },
     }
 }
 
@@ -196,7 +197,7 @@ fn two_workers_meet_in_every_pass(rt: HostRuntime) -> Result<(), Fail> {
     let expected = [(Terminal::Ident, 0, 1), (Terminal::Ident, 2, 1)];
     assert!(rt; has_tokens(&crew, b"a b", &expected));
     // the chunks' functions, their pieces, the faulty ones, and the tokens' three columns
-    assert_eq!(rt; gate.told(), (6, 0));
+    assert_eq!(rt; gate.counts(), (6, 0));
     Ok(())
 }
 

@@ -4,20 +4,21 @@ use chunk_seats::OpenGate;
 use front_end::{language_tables, lexed, parsed};
 use limits::MOST_SOURCE;
 use par_passes::Passes;
+use phase_faults::PhaseFault;
 use source_meaning::{BinaryOp, Kind, UnaryOp, ValueType};
 use std::alloc::Global;
 use std::process::Abort;
 use std::test::*;
 use std::thread::Threads;
 use test_gates::{Draws, Meeting, PLANS, at};
-use tree_passes::{ShapeFault, rows};
+use tree_passes::rows;
 
 // The rows of a source, which the second crew finds, or its fault of shape.
 fn shape(
     before: &impl Passes,
     crew: &impl Passes,
     source: &[u8],
-) -> Result<Result<Rows, ShapeFault>, Fail> {
+) -> Result<Result<Rows, PhaseFault>, Fail> {
     if source.len() > MOST_SOURCE {
         return Err("too large".into());
     }
@@ -59,7 +60,7 @@ fn expect_fault(
 ) -> Result<(), Fail> {
     match shape(crew, crew, source)? {
         Ok(_) => assert!(rt; false),
-        Err(fault) => assert_eq!(rt; fault, ShapeFault::Diagnostic { code, at }),
+        Err(fault) => assert_eq!(rt; fault, PhaseFault::Diagnostic { code, at }),
     }
     Ok(())
 }
@@ -439,7 +440,8 @@ fn two_workers_meet_at_rows(rt: HostRuntime) -> Result<(), Fail> {
         Ok(found) => assert!(rt; found.parents() == LEFT.2),
         Err(_) => assert!(rt; false),
     }
-    assert!(rt; gate.is_held());
+    // the tokens of rows, and four passes over stretches
+    assert_eq!(rt; gate.counts(), (5, 0));
     Ok(())
 }
 

@@ -182,7 +182,7 @@ fn key_of(kinds: &[Kind], lows: &[u32], tokens: &[u32], from: usize, to: usize) 
     if lows.len() != kinds.len() || from > to || to > kinds.len() {
         return None;
     }
-    Some(least_fault(kinds, lows, tokens, from, to))
+    Some(least_fault(kinds, lows, tokens, from, to).word())
 }
 
 #[test]

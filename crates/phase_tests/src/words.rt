@@ -1,5 +1,6 @@
 //! A worked program: the sizes and places of its pieces and its words, for every kind of plan.
-ghost use Rattle.std.specs.Prelude.{◌≡◌, ◌≤◌, ◌<◌, ◌^◌, length, IfOk};
+ghost use Rattle.std.specs.Prelude.{◌≡◌, ◌≤◌, ◌<◌, length, IfOk};
+ghost use Rattle.limits.specs.Limits.{most_rows};
 ghost use Rattle.source_meaning.specs.Ast.{Program as Source};
 ghost use Rattle.ast_rows.specs.NodeRows.{rows_from};
 ghost use Rattle.rv_emit.specs.Compilable.{IsCompilable};
@@ -104,7 +105,7 @@ fn expect<R: Abort>(
     found: &Found,
     expected: Code<'_>,
 ) -> Result<(), Fail>
-    requires nodes { length found.now.rows ≤ 2 ^ 25 }
+    requires nodes { length found.now.rows ≤ most_rows }
     requires program { (p : Source) × IsCompilable p found.now.rows found.now.names found.now.depths.items found.now.frames }
 {
     let columns = code_columns(
@@ -129,19 +130,14 @@ fn expect<R: Abort>(
 fn expect_words<R: Abort>(
     rt: &R,
     crew: &impl Passes,
-    found: &Found,
+    found: Found,
     expected: Code<'_>,
 ) -> Result<(), Fail>
-    requires nodes { length found.now.rows ≤ 2 ^ 25 }
-    requires program { (p : Source) × IsCompilable p found.now.rows found.now.names found.now.depths.items found.now.frames }
+    requires nodes { length found.rows ≤ most_rows }
+    requires program { (p : Source) × IsCompilable p found.rows found.names found.depths.items found.frames }
 {
-    match code(
-        crew,
-        &found.rows,
-        &found.names,
-        &found.depths,
-        &found.frames,
-    ) {
+    let names = found.names;
+    match code(crew, &found.rows, names, &found.depths, &found.frames) {
         Ok(words) => assert!(rt; words.as_slice() == expected.words),
         Err(_) => assert!(rt; false),
     }
@@ -150,11 +146,11 @@ fn expect_words<R: Abort>(
 
 #[test]
 fn code_of_every_plan(rt: HostRuntime) -> Result<(), Fail> {
-    let seven = seven(rt.alloc())?;
     for &plan in PLANS {
         let crew = at(&rt, rt.alloc(), plan, &OpenGate)?;
+        let seven = seven(rt.alloc())?;
         expect(&rt, &crew, &seven, SEVEN)?;
-        expect_words(&rt, &crew, &seven, SEVEN)?;
+        expect_words(&rt, &crew, seven, SEVEN)?;
     }
     Ok(())
 }
@@ -165,6 +161,7 @@ fn two_workers_meet(rt: HostRuntime) -> Result<(), Fail> {
     let gate = Meeting::new();
     let crew = at(&rt, rt.alloc(), (2, 1), &gate)?;
     expect(&rt, &crew, &seven, SEVEN)?;
-    assert!(rt; gate.is_held());
+    // five passes for columns, one over the only frame and one for the layout, one for sizes, two for places, two for words
+    assert_eq!(rt; gate.counts(), (11, 1));
     Ok(())
 }

@@ -10,7 +10,7 @@ use std::thread::Threads;
 const STEP: usize = 1 << 20;
 
 /// Room for the image of any source, and more than the lines of any run here need.
-const ROOM: usize = 1 << 21;
+const ROOM: usize = 1 << 25;
 
 /// The numbers of workers, each of which makes a plan with each size of chunks.
 const WORKERS: [&str; 3] = ["1", "4", "64"];

@@ -88,13 +88,13 @@ fn builds_and_refuses_sources(rt: HostRuntime) -> Result<(), Fail> {
 
 #[test]
 fn sources_have_a_limit(rt: HostRuntime) -> Result<(), Fail> {
-    let spaces = vec![in rt.alloc(); b' '; 1_048_577]?;
+    let spaces = vec![in rt.alloc(); b' '; 16_777_217]?;
     let call = Call {
         words: &["build"],
         plan: &[],
         source: &spaces,
     };
-    let limit: (Status, &[u8], &[u8]) = (Status::Limit, b"", b"limit 601 at 1:1048577\n");
+    let limit: (Status, &[u8], &[u8]) = (Status::Limit, b"", b"limit 601 at 1:16777217\n");
     expect(&rt, rt.alloc(), call, SOUND, limit)?;
     Ok(())
 }

@@ -1,59 +1,18 @@
-//! That the workers of the compiler's passes overlap: of two workers, the first that draws chunk 0 waits for the other.
+//! That two workers overlap in each of the compiler's passes that has more than one chunk: the one that draws chunk 0 waits for the other.
 
 use crate::calls::{Call, SEVEN, SOUND, memory_of, words_of};
-use chunk_seats::{Gate, OpenGate, Plan};
+use chunk_seats::{OpenGate, Plan};
 use front_end::{language_tables, lexed, named, parsed, shaped, typed};
 use par_passes::Workers;
 use pareas_core::{Status, code, front, pareas};
 use std::alloc::Global;
 use std::process::Abort;
-use std::sync::atomic::{AtomicU64, Ordering};
 use std::test::Fail;
 use std::thread::Threads;
+use test_gates::Meeting;
 
-// The first worker that draws chunk 0 waits until the other has drawn too, or found nothing to draw, for so many turns at most.
-#[derive(Drop)]
-struct Meeting {
-    claims: [AtomicU64; 2],
-    drawn: AtomicU64,
-    alone: AtomicU64,
-}
-
-const TURNS: u64 = 1 << 26;
-
-impl Meeting {
-    fn new() -> Meeting {
-        Meeting {
-            claims: [AtomicU64::new(0), AtomicU64::new(0)],
-            drawn: AtomicU64::new(0),
-            alone: AtomicU64::new(0),
-        }
-    }
-
-    // How often chunk 0 was drawn. Somebody drew it, and nobody waited in vain.
-    fn draws(&self, rt: &impl Abort) -> u64 {
-        let drawn = self.drawn.load(Ordering::SeqCst);
-        assert!(rt; drawn > 0);
-        assert_eq!(rt; self.alone.load(Ordering::SeqCst), 0);
-        drawn
-    }
-}
-
-impl Gate for Meeting {
-    fn after_claim(&self, worker: u32, chunk: Option<u64>) {
-        let (mine, other) = if worker == 0 { (0, 1) } else { (1, 0) };
-        self.claims[mine].fetch_add(1, Ordering::SeqCst);
-        if chunk != Some(0) || self.drawn.fetch_add(1, Ordering::SeqCst) > 0 {
-            return;
-        }
-        for _ in 0..TURNS {
-            if self.claims[other].load(Ordering::SeqCst) > 0 {
-                return;
-            }
-        }
-        self.alone.fetch_add(1, Ordering::SeqCst);
-    }
-}
+// In how many passes both workers drew a chunk, and in how many one drew alone, since there is one chunk.
+type Passed = (u64, u64);
 
 // Two workers that draw items one by one.
 fn pair<'a, R, G>(rt: &'a R, alloc: Global, gate: &'a G) -> Result<Workers<'a, R, G>, Fail> {
@@ -65,8 +24,8 @@ fn pair<'a, R, G>(rt: &'a R, alloc: Global, gate: &'a G) -> Result<Workers<'a, R
     })
 }
 
-// How often chunk 0 is drawn in the phases of the front, each called by itself.
-fn draws_of_phases<R: Threads + Abort + Sync>(rt: &R, alloc: Global) -> Result<[u64; 5], Fail> {
+// The passes of the phases of the front, each called by itself.
+fn passes_of_phases<R: Threads + Abort + Sync>(rt: &R, alloc: Global) -> Result<[Passed; 5], Fail> {
     let tables = language_tables(alloc)?;
     let gates = [
         Meeting::new(),
@@ -99,29 +58,29 @@ fn draws_of_phases<R: Threads + Abort + Sync>(rt: &R, alloc: Global) -> Result<[
         return Err("refused".into());
     };
     Ok([
-        gates[0].draws(rt),
-        gates[1].draws(rt),
-        gates[2].draws(rt),
-        gates[3].draws(rt),
-        gates[4].draws(rt),
+        gates[0].counts(),
+        gates[1].counts(),
+        gates[2].counts(),
+        gates[3].counts(),
+        gates[4].counts(),
     ])
 }
 
-// How often it is drawn in the passes from depths to words.
-fn draws_of_code<R: Threads + Abort + Sync>(rt: &R, alloc: Global) -> Result<u64, Fail> {
+// Those from depths to words.
+fn passes_of_code<R: Threads + Abort + Sync>(rt: &R, alloc: Global) -> Result<Passed, Fail> {
     let Ok(analysis) = front(&pair(rt, alloc, &OpenGate)?, SEVEN) else {
         return Err("refused".into());
     };
     let gate = Meeting::new();
-    let Ok(words) = code(&pair(rt, alloc, &gate)?, SEVEN, &analysis) else {
+    let Ok(words) = code(&pair(rt, alloc, &gate)?, SEVEN, analysis) else {
         return Err("refused".into());
     };
     assert_eq!(rt; words.len(), 15);
-    Ok(gate.draws(rt))
+    Ok(gate.counts())
 }
 
-// How often it is drawn by `pareas build`.
-fn draws_of_build<R: Threads + Abort + Sync>(rt: &R, alloc: Global) -> Result<u64, Fail> {
+// Those of `pareas build`.
+fn passes_of_build<R: Threads + Abort + Sync>(rt: &R, alloc: Global) -> Result<Passed, Fail> {
     let call = Call {
         words: &["build"],
         plan: &["--workers", "2", "--chunk", "1"],
@@ -133,15 +92,31 @@ fn draws_of_build<R: Threads + Abort + Sync>(rt: &R, alloc: Global) -> Result<u6
     let status = pareas(rt, alloc, &words, &mut input, &mut out, &mut notes, &gate);
     assert_eq!(rt; status, Status::Done);
     assert_eq!(rt; out.written().len(), 144);
-    Ok(gate.draws(rt))
+    Ok(gate.counts())
+}
+
+// The passes of each phase of the front over a function that returns a number: of tokens, parse, rows, names (of which one is over the only
+// declaration) and types.
+const PHASES: [Passed; 5] = [(6, 0), (3, 0), (5, 0), (5, 1), (4, 0)];
+
+// Those of depths, frames, columns, sizes, places and words. Three are over the only function.
+const CODE: Passed = (17, 3);
+
+#[test]
+fn two_workers_meet_in_each_pass(rt: HostRuntime) -> Result<(), Fail> {
+    let found = passes_of_phases(&rt, rt.alloc())?;
+    assert!(rt; found == PHASES, "{found:?}");
+    assert_eq!(rt; passes_of_code(&rt, rt.alloc())?, CODE);
+    Ok(())
 }
 
 #[test]
 fn build_does_what_its_calls_do(rt: HostRuntime) -> Result<(), Fail> {
-    let mut calls = draws_of_code(&rt, rt.alloc())?;
-    for draws in draws_of_phases(&rt, rt.alloc())? {
-        calls = calls.saturating_add(draws);
+    let (mut met, mut alone) = CODE;
+    for (both, one) in PHASES {
+        met = met.saturating_add(both);
+        alone = alone.saturating_add(one);
     }
-    assert!(rt; draws_of_build(&rt, rt.alloc())? >= calls);
+    assert_eq!(rt; passes_of_build(&rt, rt.alloc())?, (met, alone));
     Ok(())
 }

@@ -174,6 +174,41 @@ const PROGRAMS: &[Row] = &[
     ),
 ];
 
+/// 64 statements, of which the first and the last have an operand of a wrong type.
+const FIRST_AND_LAST: &[u8] =
+    b"fn main(): int { 1 + true; 0;0;0;0;0;0;0;0;0;0;0;0;0;0;0;0;0;0;0;0;0;0;0;0;0;0;0;0;0;0;0;0;0;0;0;0;0;0;0;0;0;0;0;0;0;0;0;0;0;0;0;0;0;0;0;0;0;0;0;0;0;0; 1 + true; }";
+
+/// Sources with diagnostics.
+const REFUSED: &[Row] = &[
+    (
+        &["build"],
+        FIRST_AND_LAST,
+        Status::Refused,
+        b"",
+        b"error 501 at 1:20\n",
+    ),
+    (
+        &["build"],
+        b"fn f(): int { return 7; }",
+        Status::Refused,
+        b"",
+        b"error 405 at 1:26\n",
+    ),
+    (
+        &["build"],
+        b"fn main(): int { return 7",
+        Status::Refused,
+        b"",
+        b"error 201 at 1:26\n",
+    ),
+];
+
+#[test]
+fn refuses_the_same_for_every_plan(rt: HostRuntime) -> Result<(), Fail> {
+    expect_for_every_plan(&rt, rt.alloc(), REFUSED)?;
+    Ok(())
+}
+
 #[test]
 fn runs_programs_of_the_whole_language(rt: HostRuntime) -> Result<(), Fail> {
     expect_rows(&rt, rt.alloc(), &[], PROGRAMS)?;

@@ -173,8 +173,8 @@ Usage: pareas <COMMAND>
 
 Commands:
   build  Compiles a program: source on standard input, ELF file for RV32IM on standard output
-  run    Compiles a program from standard input and runs it on the emulator: prints how it ends
-  emu    Runs an ELF file for RV32IM from standard input on the emulator: prints how it ends
+  run    Compiles a program from standard input and runs it on the emulator: prints its output and how it ends
+  emu    Runs an ELF file for RV32IM from standard input on the emulator: prints its output and how it ends
   dump   Lists the code of an ELF file for RV32IM from standard input: prints a line for each word
   asm    Assembles a listing as `dump` prints it: lines on standard input, ELF file for RV32IM on standard output
   table  Makes the LLP tables of a grammar from standard input: prints their sizes and the parse of a word, or a conflict
@@ -198,7 +198,7 @@ Options:
 ";
 
 const RUN_HELP: &str = "\
-Compiles a program from standard input and runs it on the emulator: prints how it ends
+Compiles a program from standard input and runs it on the emulator: prints its output and how it ends
 
 Usage: pareas run [OPTIONS]
 
@@ -210,7 +210,7 @@ Options:
 ";
 
 const EMU_HELP: &str = "\
-Runs an ELF file for RV32IM from standard input on the emulator: prints how it ends
+Runs an ELF file for RV32IM from standard input on the emulator: prints its output and how it ends
 
 Usage: pareas emu [OPTIONS]
 

@@ -16,6 +16,8 @@ enum Trial {
     Build,
     /// It is compiled and run; how it ends, or why it has no image.
     Run,
+    /// The same, with this number of steps at most.
+    RunFor(&'static str),
     /// It is compiled under nine plans; whether all come to one answer.
     Compare,
 }
@@ -28,28 +30,132 @@ const SOURCES: &[Row] = &[
     (
         "a frame of 2,032 bytes",
         Source::Variables(506),
-        &[Trial::Run],
-    ),
-    ("one variable more", Source::Variables(507), &[Trial::Run]),
-    (
-        "code of 1,048,576 bytes",
-        Source::Zeros(262_132),
         &[Trial::Build, Trial::Run],
     ),
     (
-        "one word more",
-        Source::Zeros(262_133),
-        &[Trial::Build, Trial::Compare],
+        "a frame of 2,048 bytes",
+        Source::Variables(507),
+        &[
+            Trial::Build,
+            Trial::RunFor("1029"),
+            Trial::RunFor("1030"),
+            Trial::Compare,
+        ],
     ),
     (
-        "a source of 1,048,576 bytes",
-        Source::Spaces(1_048_576),
+        "a frame of 2,064 bytes",
+        Source::Variables(511),
+        &[Trial::Build, Trial::Run],
+    ),
+    (
+        "a frame of 65,520 bytes",
+        Source::Variables(16_378),
+        &[Trial::Build, Trial::RunFor("64511"), Trial::RunFor("64512")],
+    ),
+    (
+        "one variable more",
+        Source::Variables(16_379),
+        &[Trial::Run],
+    ),
+    (
+        "code of 1,048,576 bytes, the most in the short layout",
+        Source::Zeros(262_132),
+        &[
+            Trial::Build,
+            Trial::RunFor("262143"),
+            Trial::RunFor("262144"),
+        ],
+    ),
+    (
+        "one word more, in the long layout",
+        Source::Zeros(262_133),
+        &[
+            Trial::Build,
+            Trial::RunFor("262145"),
+            Trial::RunFor("262146"),
+            Trial::Compare,
+        ],
+    ),
+    (
+        "code of 16,777,216 bytes",
+        Source::Zeros(4_194_291),
+        &[Trial::Build],
+    ),
+    ("one word more", Source::Zeros(4_194_292), &[Trial::Build]),
+    (
+        "a source of 16,777,216 bytes",
+        Source::Spaces(16_777_216),
         &[Trial::Build],
     ),
     (
         "one byte more",
-        Source::Spaces(1_048_577),
+        Source::Spaces(16_777_217),
         &[Trial::Build, Trial::Compare],
+    ),
+    // jumps over more than a million bytes
+    (
+        "a call back over 262,144 words",
+        Source::Filled {
+            before: b"fn f(): int {",
+            piece: b"0;",
+            count: 262_144,
+            behind: b"return 3; } fn main(): int { return f[]; }",
+        },
+        &[
+            Trial::Build,
+            Trial::RunFor("262173"),
+            Trial::RunFor("262174"),
+        ],
+    ),
+    (
+        "a loop over 262,144 words",
+        Source::Filled {
+            before: b"fn main(): int { var x: int = 0; while x < 3 {",
+            piece: b"0;",
+            count: 262_144,
+            behind: b"x = x + 1; } return x; }",
+        },
+        &[Trial::Build, Trial::Run],
+    ),
+    (
+        "an if over 262,144 words",
+        Source::Filled {
+            before: b"fn main(): int { var x: int = 0; if x == 1 {",
+            piece: b"0;",
+            count: 262_144,
+            behind: b"} else { x = 5; } return x; }",
+        },
+        &[Trial::Build, Trial::Run],
+    ),
+    (
+        "an else over 262,144 words",
+        Source::Filled {
+            before: b"fn main(): int { var x: int = 0; if x == 0 { x = 6; } else {",
+            piece: b"0;",
+            count: 262_144,
+            behind: b"} return x; }",
+        },
+        &[Trial::Build, Trial::Run],
+    ),
+    (
+        "the right of an && over 262,144 words",
+        Source::Filled {
+            before: b"fn main(): int { var x: int = 7; if x == 0 && 0",
+            piece: b"+0",
+            count: 131_072,
+            behind: b" == 0 { x = 0; } return x; }",
+        },
+        &[Trial::Build, Trial::Run],
+    ),
+    (
+        "the right of an || over 262,144 words",
+        Source::Filled {
+            before: b"fn main(): int { var x: int = 0; if x == 0 || 0",
+            piece: b"+0",
+            count: 131_072,
+            behind: b" == 1 { x = 8; } return x; }",
+        },
+        &[Trial::Build, Trial::Run],
     ),
     // long ones
     (
@@ -136,6 +242,16 @@ const SOURCES: &[Row] = &[
             behind: b"]",
         },
         &[Trial::Run],
+    ),
+    (
+        "16,000 sums to the right",
+        Source::Around {
+            before: b"1+(",
+            count: 16_000,
+            middle: b"7",
+            behind: b")",
+        },
+        &[Trial::Build, Trial::Run],
     ),
     (
         "100,000 sums to the right",
@@ -227,6 +343,7 @@ fn attempt<R: Threads + Print + Sync>(
     match trial {
         Trial::Build => build(rt, alloc, source),
         Trial::Run => show(rt, alloc, &["pareas", "run"], source),
+        Trial::RunFor(steps) => show(rt, alloc, &["pareas", "run", "--steps", steps], source),
         Trial::Compare => compare(rt, alloc, source),
     }
 }

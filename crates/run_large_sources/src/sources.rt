@@ -9,6 +9,13 @@ pub(crate) enum Source {
     Variables(u32),
     /// So many statements of one word each.
     Zeros(u32),
+    /// A piece so many times between a beginning and an end.
+    Filled {
+        before: &'static [u8],
+        piece: &'static [u8],
+        count: u32,
+        behind: &'static [u8],
+    },
     /// So many bytes of white space alone.
     Spaces(usize),
     /// A program whose value is an expression that begins and ends so many times with these pieces.
@@ -46,7 +53,13 @@ impl Source {
     pub(crate) fn text(self, alloc: Global) -> Result<Vec<u8>, AllocError> {
         match self {
             Source::Variables(count) => variables(alloc, count),
-            Source::Zeros(count) => zeros(alloc, count),
+            Source::Zeros(count) => filled(alloc, b"fn main(): int {", b"0;", count, b"}"),
+            Source::Filled {
+                before,
+                piece,
+                count,
+                behind,
+            } => filled(alloc, before, piece, count, behind),
             Source::Spaces(count) => vec![in alloc; b' '; count],
             Source::Around {
                 before,
@@ -87,10 +100,16 @@ fn variables(alloc: Global, count: u32) -> Result<Vec<u8>, AllocError> {
     Ok(text)
 }
 
-fn zeros(alloc: Global, count: u32) -> Result<Vec<u8>, AllocError> {
-    let mut text = b"fn main(): int {".to_vec(alloc)?;
-    repeat(&mut text, b"0;", count)?;
-    text.push(b'}')?;
+fn filled(
+    alloc: Global,
+    before: &[u8],
+    piece: &[u8],
+    count: u32,
+    behind: &[u8],
+) -> Result<Vec<u8>, AllocError> {
+    let mut text = before.to_vec(alloc)?;
+    repeat(&mut text, piece, count)?;
+    text.extend_from_slice(behind)?;
     Ok(text)
 }
 

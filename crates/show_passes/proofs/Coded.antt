@@ -2,6 +2,7 @@
 use Rattle.std.proofs.Common.{◌≡◌, ℕ, zero, suc, ◌<◌, ◌≤◌, Bool, true, false, List, [], ◌∷◌, length, Option, Some, None, nat_lt, if◌then◌else◌, refl, arith}
 use Rattle.std.specs.List.{find}
 use Rattle.std.proofs.lemmas.Bool.Decides.{nat_tests}
+use Rattle.limits.specs.Limits.{most_frame}
 use Rattle.source_meaning.specs.Ast.{Function, Program}
 use Rattle.source_meaning.specs.Frames.{Frame, frame}
 use Rattle.source_meaning.specs.Grammar.{Tree, Prog, ast}
@@ -15,7 +16,7 @@ use Rattle.rv_emit.specs.Compilable.{IsCompilable}
 use Rattle.pareas_core.specs.Coded.{AreFrames}
 
 abbrev large : Function → Bool
-large f = nat_lt 2032 (frame f).bytes
+large f = nat_lt most_frame (frame f).bytes
 
 first_not : (f : Function) (fs : Program) → find large (f ∷ fs) ≡ None → (large f ≡ false) × (find large fs ≡ None)
 first_not f fs e = go (large f) e
@@ -24,7 +25,7 @@ first_not f fs e = go (large f) e
     go true h = absurd (cc)
     go false h = (refl, h)
 
-pub frames_small : (p : Program) → find large p ≡ None → (j : ℕ) → j < length p → (frame_in p j).bytes ≤ 2032
+pub frames_small : (p : Program) → find large p ≡ None → (j : ℕ) → j < length p → (frame_in p j).bytes ≤ most_frame
 frames_small [] e j h = absurd (omega arith)
 frames_small (f ∷ fs) e zero h = let b = (first_not f fs e).0 in grind (arith, nat_tests)
 frames_small (f ∷ fs) e (suc j) h = frames_small fs (first_not f fs e).1 j (omega arith)

@@ -1,5 +1,6 @@
 //! The code: depths, frames, sizes and places of the rows' pieces, words, and the file.
-ghost use Rattle.std.specs.Prelude.{◌≡◌, ◌≤◌, ◌^◌, length, IfOk};
+ghost use Rattle.std.specs.Prelude.{◌≡◌, ◌≤◌, length, IfOk};
+ghost use Rattle.limits.specs.Limits.{most_rows};
 ghost use Rattle.source_meaning.specs.Ast.{Program as Source};
 ghost use Rattle.source_meaning.specs.Grammar.{Tree, Prog, ast};
 ghost use Rattle.source_meaning.specs.Frames.{depths as depths_of};
@@ -14,7 +15,7 @@ use front_end::Analysis;
 use par_passes::Passes;
 use row_laws::rows_are_few;
 use rv_emit::{code_columns, emit, places, sizes};
-use rv_regs::{FrameError, Frames, depths, frames};
+use rv_regs::{FrameFault, Frames, depths, frames};
 use rv_text::{push_hexadecimal, push_line};
 use source_meaning::Kind;
 use std::alloc::AllocError;
@@ -28,8 +29,8 @@ fn framed(
     source: &[u8],
     analysis: &Analysis,
     depths: &[u32],
-) -> Result<Frames, FrameError>
-    requires nodes { length analysis.now.rows ≤ 2 ^ 25 }
+) -> Result<Frames, FrameFault>
+    requires nodes { length analysis.now.rows ≤ most_rows }
     ensures { IfOk result (λ f. (t : Tree Prog) → IsAnalysis source.now t analysis.now → depths.now ≡ depths_of (ast t) → AreFrames source.now analysis.now depths.now f t) }
 {
     // The contract alone speaks of it.
@@ -122,7 +123,7 @@ fn show_program(
     depths: &[u32],
     frames: &Frames,
 ) -> Result<(), AllocError>
-    requires nodes { length analysis.now.rows ≤ 2 ^ 25 }
+    requires nodes { length analysis.now.rows ≤ most_rows }
     requires program { (p : Source) × IsCompilable p analysis.now.rows analysis.now.names depths.now frames.now }
 {
     let columns = code_columns(crew, &analysis.rows, &analysis.names, depths, frames)?;
@@ -146,7 +147,7 @@ fn show_emitted(
     depths: &[u32],
     frames: &Frames,
 ) -> Result<(), AllocError>
-    requires nodes { length analysis.now.rows ≤ 2 ^ 25 }
+    requires nodes { length analysis.now.rows ≤ most_rows }
     requires framed { (t : Tree Prog) × AreFrames source.now analysis.now depths.now frames.now t }
 {
     // The contract alone speaks of it.

@@ -59,7 +59,7 @@ impl<R: Read> Reader<R> {
     }
 }
 
-/// What is left is what the stream tells of it. A read that a signal interrupts is made again, and is no fault.
+/// What is left is what the stream says is left. A read that a signal interrupts is made again, and is no fault.
 impl<R: Read> ByteIn for Reader<R> {
     ghost left = { λ r. R.remaining r.stream };
 
@@ -92,7 +92,7 @@ impl<W: Write> Writer<W> {
     }
 }
 
-/// What was written is what the stream tells of it. A write that a signal interrupts is made again, and is no fault.
+/// What was written is what the stream says was written. A write that a signal interrupts is made again, and is no fault.
 impl<W: Write> ByteOut for Writer<W> {
     ghost written = { λ w. W.contents w.stream };
 

@@ -1,7 +1,8 @@
 -- A text has at most as many tokens as bytes.
-use Rattle.std.proofs.Common.{◌≡◌, ℕ, suc, ◌+◌, ◌≤◌, Bool, true, false, List, [], ◌∷◌, ◌++◌, length, Option, Some, None, take_while, ◌∙◌, refl, ap, arith}
+use Rattle.std.proofs.Common.{◌≡◌, ℕ, suc, ◌+◌, ◌≤◌, Bool, true, false, List, [], ◌∷◌, ◌++◌, length, Option, Some, None, take_while, ◌∙◌, ap, arith}
 use Rattle.std.proofs.lemmas.List.{length-map, length-take}
 use Rattle.std.specs.List.{prefix_len}
+use Rattle.limits.specs.Limits.{most_source}
 use Rattle.ast_rows.specs.TokenRows.{TokenRow, row_of}
 use Rattle.source_meaning.specs.Rows.{Row, post}
 use Rattle.source_meaning.specs.Grammar.{Tree, Prog, ast, leaves}
@@ -42,7 +43,7 @@ tokens_few text =
     omega arith
 
 -- the rows of a text's tokens, too
-pub rows_few : (text : List ℕ) (rows : List TokenRow) → AreTokens text rows → length rows ≤ 1048576
+pub rows_few : (text : List ℕ) (rows : List TokenRow) → AreTokens text rows → length rows ≤ most_source
 rows_few text rows are =
     let e : length rows ≡ length (tokens text) = ap length are.are ∙ length-map (tokens text) row_of in
     let h = tokens_few text in
@@ -50,7 +51,7 @@ rows_few text rows are =
     omega arith
 
 -- and the rows of a tree over them
-pub tree_few : (text : List ℕ) (rows : List Row) (t : Tree Prog) → length text ≤ 1048576 → AreRows text rows t → length (post (ast t)) ≤ length (leaves t) + 1 → length rows ≤ 1048577
+pub tree_few : (text : List ℕ) (rows : List Row) (t : Tree Prog) → length text ≤ most_source → AreRows text rows t → length (post (ast t)) ≤ length (leaves t) + 1 → length rows ≤ most_source + 1
 tree_few text rows t fits are few =
     let e : length rows ≡ length (post (ast t)) = ap length are.are in
     let l : length (leaves t) ≡ length (tokens text) = ap length are.tree in

@@ -1,5 +1,5 @@
-use Rattle.std.proofs.Common.{◌≡◌, ◌∙◌, ◌≤◌, ℕ, List, length, map, ap, sym, subst, arith}
-use Rattle.source_meaning.specs.Lexemes.{tokens, place_of}
+use Rattle.std.proofs.Common.{◌≡◌, ◌∙◌, ℕ, List, map, ap, sym, subst, arith}
+use Rattle.source_meaning.specs.Lexemes.{tokens}
 use Rattle.source_meaning.specs.Grammar.{grammar, terminal_number}
 use Rattle.grammar_file.specs.Derivation.{IsLeftParse}
 use Rattle.grammar_file.specs.SyntaxPlace.{IsSyntaxPlace}

@@ -1,4 +1,4 @@
-use Rattle.std.proofs.Common.{◌≡◌, ◌∙◌, ℕ, sym, subst, ap, Err}
+use Rattle.std.proofs.Common.{◌∙◌, ℕ, sym, subst, ap, Err}
 use Rattle.source_meaning.specs.Lexemes.{tokens, place_of}
 use Rattle.verdict.specs.Verdict.{IsVerdict, Diagnosed}
 use Rattle.front_end.proofs.Judging.{shape_told}

@@ -1,4 +1,4 @@
-use Rattle.std.proofs.Common.{◌≡◌, ◌∙◌, ℕ, sym, subst, ap, Err}
+use Rattle.std.proofs.Common.{◌∙◌, ℕ, sym, subst, ap, Err}
 use Rattle.source_meaning.specs.Grammar.{ast}
 use Rattle.source_meaning.specs.Scope.{Fault}
 use Rattle.source_meaning.specs.Lexemes.{tokens, place_of}

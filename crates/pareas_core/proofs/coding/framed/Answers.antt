@@ -1,10 +1,11 @@
 use Rattle.std.proofs.Common.{◌≡◌, ◌∙◌, Err, sym, ap, subst, arith}
 use Rattle.std.specs.List.{find}
 use Rattle.std.specs.Prelude.{nat_lt}
+use Rattle.limits.specs.Limits.{most_frame}
 use Rattle.source_meaning.specs.Lexemes.{tokens, place_of}
 use Rattle.source_meaning.specs.Grammar.{ast}
 use Rattle.source_meaning.specs.Frames.{frame}
-use Rattle.verdict.specs.Verdict.{Verdict, IsVerdict, Limited, most_frame}
+use Rattle.verdict.specs.Verdict.{Verdict, IsVerdict, Limited}
 use Rattle.pareas_core.proofs.Large.{one_found}
 use Rattle.pareas_core.proofs.coding.framed.Goals as goal
 

@@ -3,7 +3,8 @@ use Rattle.std.proofs.lemmas.Result.{IfOk-weaker}
 use Rattle.drill_source.specs.Drill.{drill_text}
 use Rattle.rv32_emul.specs.Machine.{machine}
 use Rattle.front_end.specs.Front.{IsRefusedBy}
-use Rattle.pareas_core.specs.Headline.{CompilesTo, IsToldOf}
+use Rattle.pareas_core.specs.Headline.{CompilesTo}
+use Rattle.pareas_core.specs.Responses.{IsToldOf}
 use Rattle.pareas_core.specs.Output.{due_of_machine, drill_lines, drill_steps}
 use Rattle.pareas_core.proofs.Meeting.{by_drill, drilled_through, refused, running}
 use Rattle.pareas_core.proofs.drill.drill.Goals as goal

@@ -10,5 +10,5 @@ returns-in-Ok c = assembles c.args.text.now _ (c.written.ensures ∙ ap due_of_a
 
 pub returns-in-Err-2 : goal.returns-in-Err-2
 returns-in-Err-2 c =
-    let is : file_of_text c.args.text.now ≡ Err c.in-Err.fault = elim c.in-Err.ensures.fault [ inl none ↦ absurd (c.ran_out.ensures c.if-ran_out.false none) | inr is ↦ is ] in
+    let is : file_of_text c.args.text.now ≡ Err c.in-Err.fault = elim c.in-Err.ensures.fault [ inl none ↦ absurd (c.ran_out.ensures.no_other c.if-ran_out.false none) | inr is ↦ is ] in
     IfOk-weaker c.bad_asm.result _ _ (λ d same. assembles c.args.text.now d (same ∙ ap due_of_asm (sym is))) c.bad_asm.ensures

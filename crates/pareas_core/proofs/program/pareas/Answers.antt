@@ -1,7 +1,7 @@
 use Rattle.std.proofs.Common.{sym, subst, ap, ◌≡◌, ◌∙◌, Some, Err, refl, map, string_bytes}
 use Rattle.std.specs.Prelude.{option_map}
 use Rattle.command_line.specs.Words.{Asked, command_of}
-use Rattle.pareas_core.specs.Headline.{HasRead}
+use Rattle.pareas_core.specs.Responses.{HasRead}
 use Rattle.pareas_core.proofs.Meeting.{met, failed_read}
 use Rattle.pareas_core.proofs.program.pareas.Goals as goal
 

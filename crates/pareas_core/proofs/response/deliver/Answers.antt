@@ -2,7 +2,7 @@ use Rattle.std.proofs.Common.{refl, inl, inr, sym, ap, ◌∙◌, subst}
 use Rattle.std.specs.Io.KnownBytes.{Appends}
 use Rattle.pareas_core.specs.Output.{Due}
 use Rattle.pareas_core.specs.Reading.{WritesPrefix}
-use Rattle.pareas_core.specs.Headline.{IsDelivered, whole, broken_off}
+use Rattle.pareas_core.specs.Responses.{IsDelivered, whole, broken_off}
 use Rattle.pareas_core.proofs.Meeting.{got, got_prefix, got_all, got_none}
 use Rattle.pareas_core.proofs.response.deliver.Goals as goal
 

@@ -2,7 +2,7 @@ use Rattle.std.proofs.Common.{sym, subst, ap, ◌∙◌, IfOk}
 use Rattle.std.proofs.lemmas.Result.{IfOk-weaker}
 use Rattle.rv32_emul.specs.Machine.{machine}
 use Rattle.pareas_core.specs.Output.{due_of_machine}
-use Rattle.pareas_core.specs.Headline.{IsResponse}
+use Rattle.pareas_core.specs.Responses.{IsResponse}
 use Rattle.pareas_core.proofs.Meeting.{emulates}
 use Rattle.pareas_core.proofs.response.respond.Goals as goal
 

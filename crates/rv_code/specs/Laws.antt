@@ -1,0 +1,2 @@
+-- Laws of the definitions, for the proofs of the crates above.
+pub mod Widths
