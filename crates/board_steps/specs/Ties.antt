@@ -37,7 +37,7 @@ DrawsAreClaims =
 abbrev pub FinishesAreDone : Type 0
 FinishesAreDone =
     (d : Deal) (a c : ℕ) (s t : ClaimTable) → Dealt d s
-    → (r : IsStep a 1 ((slice_index s.words 1 + 1) % 2 ^ 64) (slice_index s.words 1) (Finishes c (step 0 1 1 0 none)) s t)
+    → (r : IsStep a 1 ((slice_index s.words 1 + 1) % 2 ^ 64) (slice_index s.words 1) (Finishes c d.chunks d.seats (step 0 1 1 0 none)) s t)
     → 0 < times c r.old.claimed → times c r.old.done ≡ 0 → RunsDone a c s t
 
 -- the number of what is in a seat's hand

@@ -2,7 +2,7 @@
 use Rattle.std.specs.Prelude.{◌≡◌, ℕ, ◌<◌, ◌≤◌, length}
 use Rattle.atomic_table.specs.Table.{Me, Step}
 use Rattle.chunk_seats.specs.declared.views.ClaimView.{ClaimView}
-use Rattle.chunk_seats.specs.Tallies.{times}
+use Rattle.chunk_seats.specs.Tallies.{times, OnceBelow}
 use Rattle.chunk_seats.specs.Claims.{claiming, spending, finishing}
 
 -- a seat, by its view and the slots that it holds, of which there are none
@@ -16,6 +16,8 @@ Draws k st m r m' =
     × (r < k → (m'.0 ≡ claiming m.0 r) × (times r m.0.claimed ≡ 0) × (length m.0.claimed < k))
     × (k ≤ r → m'.0 ≡ spending m.0)
 
--- the count of the chunk c as done
-abbrev pub Finishes : ℕ → Step (Unit {0}) → Hand → ℕ → Hand → Type 0
-Finishes c st m r m' = (m'.1 ≡ m.1) × (m'.0 ≡ finishing m.0 c)
+-- the count of the chunk c as done; a spent seat of the whole weight is seen to have claimed each of k chunks, once
+abbrev pub Finishes : (c k seats : ℕ) → Step (Unit {0}) → Hand → ℕ → Hand → Type 0
+Finishes c k seats st m r m' =
+    (m'.1 ≡ m.1) × (m'.0 ≡ finishing m.0 c)
+    × (m.0.weight ≡ seats → m.0.share ≡ 0 → OnceBelow k (λ n. times n m.0.claimed))

@@ -111,8 +111,28 @@ pub draws_as : (d : Deal) (slots id : ℕ) (me : Hand) (k : ℕ) → k ≡ d.chu
     → Allows (Dealt d) slots id me 0 (λ n. (n + 1) % 18446744073709551616) (Draws k (step slots 0 1 0 none) me)
 draws_as d slots id me k is unspent = subst (λ (x : ℕ). Allows (Dealt d) slots id me 0 (λ n. (n + 1) % 18446744073709551616) (Draws x (step slots 0 1 0 none) me)) (sym is) (draws d slots id me unspent)
 
+-- what the seat with all the weight knows at the end
+pub ends : (d : Deal) (id : ℕ) (v : ClaimView) (s : St) → Seen (Dealt d) id v s → v.weight ≡ d.seats
+    → OnceBelow (min (get_or s.words 0 0) d.chunks) (λ n. times n v.claimed) × (get_or s.words 1 0 ≡ length v.done)
+ends d id v s seen all =
+    let r = seen.0 in let at = seen.1 in
+    let c : get_or s.words 0 0 ≡ r.counter = ap (λ (ws : List ℕ). get_or ws 0 0) r.words in
+    let f : get_or s.words 1 0 ≡ r.finished = ap (λ (ws : List ℕ). get_or ws 1 0) r.words in
+    let heavy : total (λ (u : ClaimView). u.weight) s.views ≡ v.weight = r.weights ∙ sym all in
+    let dones = total_alone (λ (u : ClaimView). length u.done) (λ (u : ClaimView). u.weight) s.views id v (λ i u e none_left. ap length ((r.each i u e).idle none_left).1) at heavy in (
+      (λ n.
+          let t = total_alone (λ (u : ClaimView). times n u.claimed) (λ (u : ClaimView). u.weight) s.views id v (λ i u e none_left. ap (times n) ((r.each i u e).idle none_left).0) at heavy in
+          let old = r.once n in ((λ h. let was = old.0 (omega arith) in omega arith), λ h. let was = old.1 (omega arith) in omega arith)),
+      omega (arith, r.all_done),
+    )
+
+pub spent_ends : (d : Deal) (id : ℕ) (v : ClaimView) (s : St) → Seen (Dealt d) id v s → 0 < v.weight → v.share ≡ 0 → d.chunks ≤ get_or s.words 0 0
+spent_ends d id v s seen weighs spent =
+    let r = seen.0 in let c : get_or s.words 0 0 ≡ r.counter = ap (λ (ws : List ℕ). get_or ws 0 0) r.words in
+    omega (arith, (r.each id v seen.1).spent weighs spent)
+
 pub finishes : (d : Deal) (slots id : ℕ) (me : Hand) (c : ℕ) → 0 < times c me.0.claimed → times c me.0.done ≡ 0 → 0 < me.0.weight
-    → Allows (Dealt d) slots id me 1 (λ n. (n + 1) % 18446744073709551616) (Finishes c (step slots 1 1 0 none) me)
+    → Allows (Dealt d) slots id me 1 (λ n. (n + 1) % 18446744073709551616) (Finishes c d.chunks d.seats (step slots 1 1 0 none) me)
 finishes d slots id me c there undone weighs s r _ at small =
     let v : ClaimView = me.0 in
     let w : ClaimView = finishing v c in
@@ -147,12 +167,21 @@ finishes d slots id me c there undone weighs s r _ at small =
         all_done = omega arith;
         each = each';
       },
-      (refl, refl),
+      (
+        refl,
+        refl,
+        λ all spent.
+            let all_drawn : min (get_or s.words 0 0) d.chunks ≡ d.chunks = (let drawn = spent_ends d id v s (r, at) weighs spent in omega arith) in
+            subst (λ (x : ℕ). OnceBelow x (λ n. times n v.claimed)) all_drawn (ends d id v s (r, at) all).0,
+      ),
     )
 
-pub finishes_as : (d : Deal) (slots id : ℕ) (me : Hand) (c told : ℕ) → told ≡ c → 0 < times c me.0.claimed → times c me.0.done ≡ 0 → 0 < me.0.weight
-    → Allows (Dealt d) slots id me 1 (λ n. (n + 1) % 18446744073709551616) (Finishes told (step slots 1 1 0 none) me)
-finishes_as d slots id me c told is there undone weighs = subst (λ (x : ℕ). Allows (Dealt d) slots id me 1 (λ n. (n + 1) % 18446744073709551616) (Finishes x (step slots 1 1 0 none) me)) (sym is) (finishes d slots id me c there undone weighs)
+pub finishes_as : (d : Deal) (slots id : ℕ) (me : Hand) (c told chunks seats : ℕ) → told ≡ c → chunks ≡ d.chunks → seats ≡ d.seats → 0 < times c me.0.claimed → times c me.0.done ≡ 0 → 0 < me.0.weight
+    → Allows (Dealt d) slots id me 1 (λ n. (n + 1) % 18446744073709551616) (Finishes told chunks seats (step slots 1 1 0 none) me)
+finishes_as d slots id me c told chunks seats is is_k is_s there undone weighs =
+    subst (λ (x : ℕ). Allows (Dealt d) slots id me 1 (λ n. (n + 1) % 18446744073709551616) (Finishes x chunks seats (step slots 1 1 0 none) me)) (sym is)
+    (subst (λ (y : ℕ). Allows (Dealt d) slots id me 1 (λ n. (n + 1) % 18446744073709551616) (Finishes c y seats (step slots 1 1 0 none) me)) (sym is_k)
+    (subst (λ (z : ℕ). Allows (Dealt d) slots id me 1 (λ n. (n + 1) % 18446744073709551616) (Finishes c d.chunks z (step slots 1 1 0 none) me)) (sym is_s) (finishes d slots id me c there undone weighs)))
 
 pub cuts : (d : Deal) (id : ℕ) (v : ClaimView) (n : ℕ) → 1 ≤ n → n < v.share → Splits (Dealt d) id v (giving v n) (fresh n)
 cuts d id v n some_part less s r at =
@@ -233,26 +262,6 @@ joins d id v other w pv pw s r at apart at' =
       each = every_set (Fits d r.counter) vs other z (record { share_is = inl refl; spent = λ p q. absurd (omega arith); idle = λ q. (refl, refl); within = λ m. omega arith })
           (every_set (Fits d r.counter) s.views id b (joined_fits d r.counter v w pv pw fv fw) r.each);
     }
-
--- what the seat with all the weight knows at the end
-pub ends : (d : Deal) (id : ℕ) (v : ClaimView) (s : St) → Seen (Dealt d) id v s → v.weight ≡ d.seats
-    → OnceBelow (min (get_or s.words 0 0) d.chunks) (λ n. times n v.claimed) × (get_or s.words 1 0 ≡ length v.done)
-ends d id v s seen all =
-    let r = seen.0 in let at = seen.1 in
-    let c : get_or s.words 0 0 ≡ r.counter = ap (λ (ws : List ℕ). get_or ws 0 0) r.words in
-    let f : get_or s.words 1 0 ≡ r.finished = ap (λ (ws : List ℕ). get_or ws 1 0) r.words in
-    let heavy : total (λ (u : ClaimView). u.weight) s.views ≡ v.weight = r.weights ∙ sym all in
-    let dones = total_alone (λ (u : ClaimView). length u.done) (λ (u : ClaimView). u.weight) s.views id v (λ i u e none_left. ap length ((r.each i u e).idle none_left).1) at heavy in (
-      (λ n.
-          let t = total_alone (λ (u : ClaimView). times n u.claimed) (λ (u : ClaimView). u.weight) s.views id v (λ i u e none_left. ap (times n) ((r.each i u e).idle none_left).0) at heavy in
-          let old = r.once n in ((λ h. let was = old.0 (omega arith) in omega arith), λ h. let was = old.1 (omega arith) in omega arith)),
-      omega (arith, r.all_done),
-    )
-
-pub spent_ends : (d : Deal) (id : ℕ) (v : ClaimView) (s : St) → Seen (Dealt d) id v s → 0 < v.weight → v.share ≡ 0 → d.chunks ≤ get_or s.words 0 0
-spent_ends d id v s seen weighs spent =
-    let r = seen.0 in let c : get_or s.words 0 0 ≡ r.counter = ap (λ (ws : List ℕ). get_or ws 0 0) r.words in
-    omega (arith, (r.each id v seen.1).spent weighs spent)
 
 -- the same, by the words that the closed table gives
 pub closes : (d : Deal) (id : ℕ) (v : ClaimView) (ws : List ℕ) (xs : List (Unit {0})) (counter finished : ℕ) → Final (Seen (Dealt d) id v) ws xs

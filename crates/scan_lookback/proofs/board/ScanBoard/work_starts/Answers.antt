@@ -26,14 +26,14 @@ loop-c-preserved g c =
     let sealed = c.publish-start.ensures.sealed in
     record {
       seat_board = ap (λ s. s.board) sealed.1 ∙ i.seat_board;
-      mine_board = ap (λ s. s.board) c.done.ensures ∙ (ap (λ s. s.board) drawn.1 ∙ i.mine_board);
+      mine_board = ap (λ s. s.board) c.done.ensures.counted ∙ (ap (λ s. s.board) drawn.1 ∙ i.mine_board);
       seat_share = ap (λ s. s.view.share) sealed.1 ∙ i.seat_share;
-      weight = ap (λ s. s.view.weight) c.done.ensures ∙ (ap (λ s. s.view.weight) drawn.1 ∙ i.weight);
-      unspent = subst (λ (n : ℕ). 0 < n) (sym (ap (λ s. s.view.share) c.done.ensures ∙ ap (λ s. s.view.share) drawn.1)) i.unspent;
-      even = even_as _ _ _ _ (ap (λ s. s.view) c.done.ensures ∙ ap (λ s. finishing s.view c.in-Some.c) drawn.1) (ap (λ s. s.view) sealed.1)
+      weight = ap (λ s. s.view.weight) c.done.ensures.counted ∙ (ap (λ s. s.view.weight) drawn.1 ∙ i.weight);
+      unspent = subst (λ (n : ℕ). 0 < n) (sym (ap (λ s. s.view.share) c.done.ensures.counted ∙ ap (λ s. s.view.share) drawn.1)) i.unspent;
+      even = even_as _ _ _ _ (ap (λ s. s.view) c.done.ensures.counted ∙ ap (λ s. finishing s.view c.in-Some.c) drawn.1) (ap (λ s. s.view) sealed.1)
           (even_more c.loop-c.mine.view c.loop-c.seat.view c.in-Some.c _ i.even drawn.2);
       looked = back_more c.args.seat.now.view c.loop-c.seat.view _ c.in-Some.c sealed.0 i.looked (ap (λ s. s.view) sealed.1) sealed.2;
-      drawn = answers_more c.loop-c.mine.view.claimed _ _ c.loop-c.all.items _ c.in-Some.c c.publish-start.result i.drawn (ap (λ s. s.view.claimed) c.done.ensures ∙ ap (λ s. s.view.claimed) drawn.1) c.in_ok-push.ensures.items;
+      drawn = answers_more c.loop-c.mine.view.claimed _ _ c.loop-c.all.items _ c.in-Some.c c.publish-start.result i.drawn (ap (λ s. s.view.claimed) c.done.ensures.counted ∙ ap (λ s. s.view.claimed) drawn.1) c.in_ok-push.ensures.items;
       starts = all_more (StartsAt (g.M.WordMonoid.ops c.args.self.now.monoid) g.N.Chunks.sums) c.loop-c.all.items _ (c.in-Some.c, c.publish-start.result) c.in_ok-push.ensures.items i.starts c.publish-start.ensures.start;
     }
 
