@@ -214,19 +214,28 @@ fn pass_is_right(crew: &impl Passes, found: &Analysis, pass: u32) -> Result<bool
     }
 }
 
+// A source of more than one block of rows, by which frames are found.
+const BLOCKS: &[u8] =
+    b"fn f(): int { return 1; } fn main(): int { 0; 0; 0; 0; 0; 0; 0; 0; 0; 0; 0; 0; 0; 0; 0; 0; 0; 0; 0; 0; 0; 0; 0; 0; 0; 0; 0; 0; 0; 0; 0; 0; 0; 0; 0; 0; 0; 0; 0; 0; return 2; }";
+
 // In how many passes of names, types, depths, and depths with frames two workers meet, and in how many one draws alone: of three variables there is one
 // pair, and then of two minima.
-const MEETINGS: [(u64, u64); 4] = [(7, 2), (4, 0), (3, 0), (8, 0)];
+const MEETINGS: [(&[u8], (u64, u64)); 4] = [
+    (BINDINGS, (7, 2)),
+    (BINDINGS, (4, 0)),
+    (BINDINGS, (3, 0)),
+    (BLOCKS, (8, 0)),
+];
 
 #[test]
 fn two_workers_meet_in_each_pass(rt: HostRuntime) -> Result<(), Fail> {
     let before = at(&rt, rt.alloc(), (2, 1), &OpenGate)?;
-    let found = analysed(&before, BINDINGS)?;
-    for (pass, counts) in MEETINGS.iter().enumerate() {
+    for (pass, &(source, counts)) in MEETINGS.iter().enumerate() {
+        let found = analysed(&before, source)?;
         let gate = Meeting::new();
         let crew = at(&rt, rt.alloc(), (2, 1), &gate)?;
         assert!(rt; pass_is_right(&crew, &found, pass as u32)?, "pass {pass}");
-        assert_eq!(rt; gate.counts(), *counts, "pass {pass}");
+        assert_eq!(rt; gate.counts(), counts, "pass {pass}");
     }
     Ok(())
 }

@@ -6,6 +6,7 @@ use Rattle.std.proofs.lemmas.List.{map-append}
 use Rattle.source_meaning.specs.declared.kinds.Kind.{Kind}
 use Rattle.source_meaning.specs.Grammar.{Prog, Tree, leaves, left_parse}
 use Rattle.list_cuts.specs.Cuts.{number_at, AreCuts, start_of}
+use Rattle.row_walk.specs.Walk.{made_by}
 use Rattle.row_pieces.specs.Pieces.{last_behind, no_row}
 use Rattle.row_columns.specs.Numbers.{IsParseOf}
 use Rattle.row_columns.specs.RowFaults.{least_in}
@@ -17,7 +18,7 @@ use Rattle.row_kin.specs.declared.stretches.Ties.{Ties}
 use Rattle.tree_passes.specs.Kin.{AreTies}
 use Rattle.tree_passes.specs.Stretches.{AreColumnsOf, IsCut, rows_of_stretch, standing_before}
 use Rattle.tree_passes.proofs.Ranges.{flat_next}
-use Rattle.tree_passes.proofs.Stretched.{count_before, last_before, rows_before, rows_next}
+use Rattle.tree_passes.proofs.Stretched.{count_before, last_before, rows_before, rows_next, rows_whole}
 
 -- ---- the columns of rows
 abbrev pub AreColumnsBefore : (text numbers ends : List ℕ) → ℕ → List Kind → (lows tokens : List ℕ) → Type 0
@@ -36,6 +37,14 @@ columns_next text numbers ends cut c h kinds more_kinds all_kinds lows more_lows
     let all : AreStretch ps ts 0 no_row (rows_before numbers ends (suc c)) (kinds ++ more_kinds) (lows ++ more_lows) (tokens ++ more_tokens) = subst (λ ms. AreStretch ps ts 0 no_row ms (kinds ++ more_kinds) (lows ++ more_lows) (tokens ++ more_tokens)) (sym (rows_next numbers ends c)) joined in
     record { kinds_are = k ∙ all.kinds_are; lows_are = l ∙ all.lows_are; tokens_are = t ∙ all.tokens_are }
 
+-- where there is one stretch, its columns are those of all rows
+pub columns_alone : (text numbers ends : List ℕ) (cut : IsCut numbers ends) → length ends ≡ 1 → (kinds : List Kind) (lows tokens : List ℕ) → AreColumnsOf text numbers ends 0 kinds lows tokens →
+    (r : Tree Prog) → IsParseOf text numbers r → AreStretch (left_parse r) (leaves r) 0 no_row (made_by (left_parse r)) kinds lows tokens
+columns_alone text numbers ends cut one kinds lows tokens these r is =
+    let begun : AreColumnsBefore text numbers ends 0 [] [] [] = λ s at. record { kinds_are = refl; lows_are = refl; tokens_are = refl } in
+    let next = columns_next text numbers ends cut 0 (omega arith) [] kinds kinds [] lows lows [] tokens tokens begun these refl refl refl in
+    subst (λ ms. AreStretch (left_parse r) (leaves r) 0 no_row ms kinds lows tokens) (ap (rows_before numbers ends) (sym one) ∙ rows_whole numbers ends cut r is.1) (next r is)
+
 -- ---- the kin of rows
 abbrev pub ties_before : (lows ends : List ℕ) → ℕ → List Ties
 ties_before lows ends c = flat_map (λ c. ties_alone lows (start_of ends c) (number_at ends c)) (range_with_len 0 c)
@@ -52,6 +61,15 @@ ties_next lows ends c ps more_ps all_ps fs more_fs all_fs ls more_ls all_ls ns m
       places_are = field (λ t. t.place) ls more_ls all_ls a.places_are b.places_are l;
       counts_are = field (λ t. t.count) ns more_ns all_ns a.counts_are b.counts_are n;
     }
+
+-- where there is one stretch, what is known of its rows is known of all
+pub ties_of_one : (lows ends : List ℕ) → length ends ≡ 1 → (ps fs ls ns : List ℕ) → AreTies (ties_alone lows (start_of ends 0) (number_at ends 0)) ps fs ls ns → AreTies (ties_before lows ends (length ends)) ps fs ls ns
+ties_of_one lows ends one ps fs ls ns known =
+    let begun : AreTies (ties_before lows ends 0) [] [] [] [] = record { parents_are = refl; lows_are = refl; places_are = refl; counts_are = refl } in
+    subst (λ (n : ℕ). AreTies (ties_before lows ends n) ps fs ls ns) (sym one) (ties_next lows ends 0 [] ps ps [] fs fs [] ls ls [] ns ns begun known refl refl refl refl)
+
+pub least_of_one : (kinds : List Kind) (lows words ends : List ℕ) (n : ℕ) → AreCuts ends n → length ends ≡ 1 → (least : ℕ) → least ≡ least_in kinds lows words (start_of ends 0) (number_at ends 0) → least ≡ least_in kinds lows words 0 n
+least_of_one kinds lows words ends n cuts one least is = is ∙ ap (least_in kinds lows words 0) (ap (start_of ends) (sym one) ∙ cuts.all)
 
 pub least_next : (kinds : List Kind) (lows words ends : List ℕ) (n c : ℕ) → AreCuts ends n → c < length ends → (old more new : ℕ) → old ≡ least_in kinds lows words 0 (start_of ends c) → more ≡ least_in kinds lows words (start_of ends c) (number_at ends c) → new ≡ min old more → new ≡ least_in kinds lows words 0 (number_at ends c)
 least_next kinds lows words ends n c cuts h old more new a b e =

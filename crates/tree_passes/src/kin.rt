@@ -114,16 +114,16 @@ fn append(all: &mut Found, more: &Found) -> Result<(), AllocError>
     Ok(())
 }
 
-/// What is found of the stretches, together.
+/// What is found of the stretches, together. What is found of a single one stays where it is.
 pub(crate) fn join_found(
     alloc: Global,
     columns: &Columns,
     ends: &[usize],
-    parts: &[Found],
+    mut parts: Vec<Found>,
 ) -> Result<Found, AllocError>
     requires cuts { AreCuts ends.now (length columns.now.kinds.items) }
-    requires many { length parts.now ≡ length ends.now }
-    requires each { (c : ℕ) (x : AnyFound) → slice_get parts.now c ≡ Some x
+    requires many { length parts.items ≡ length ends.now }
+    requires each { (c : ℕ) (x : AnyFound) → slice_get parts.items c ≡ Some x
         → AreFound columns.now.kinds.items columns.now.lows.items columns.now.tokens.items (start_of ends.now c) (number_at ends.now c) x }
     ensures ties { IfOk result (λ v. AreTies (ties_by_stretches columns.now.lows.items ends.now) v.kin.parents.items v.kin.lows.items v.kin.places.items v.kin.counts.items) }
     ensures least { IfOk result (λ v. v.least ≡ least_in columns.now.kinds.items columns.now.lows.items columns.now.tokens.items 0 (length columns.now.kinds.items)) }
@@ -131,6 +131,9 @@ pub(crate) fn join_found(
     // The contract alone speaks of these.
     let _ = columns;
     let _ = ends;
+    if parts.len() == 1 {
+        return Ok(parts.swap_remove(0));
+    }
     let mut all = Found {
         kin: Kin {
             parents: Vec::new(alloc),
@@ -140,7 +143,7 @@ pub(crate) fn join_found(
         },
         least: FaultKey::NONE,
     };
-    for part in parts {
+    for part in parts.as_slice() {
         append(&mut all, part)?;
     }
     Ok(all)

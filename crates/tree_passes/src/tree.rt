@@ -58,7 +58,7 @@ fn walk_columns(
     let lists = reduce_all(crew, parse, starts.as_slice(), before_last)?;
     let handed = hand_out(crew.alloc(), parse, lists.as_slice())?;
     let parts = columns_all(crew, source, ends, starts.as_slice(), handed.as_slice())?;
-    join_columns(crew.alloc(), source, ends, parts.as_slice())
+    join_columns(crew.alloc(), source, ends, parts)
 }
 
 // The columns of the rows of the text's tree.
@@ -98,7 +98,7 @@ fn find(crew: &impl Passes, columns: &Columns, ends: &[usize]) -> Result<Found, 
     ensures least { IfOk result (λ v. v.least ≡ least_in columns.now.kinds.items columns.now.lows.items columns.now.tokens.items 0 (length columns.now.kinds.items)) }
 {
     let parts = find_all(crew, columns, ends)?;
-    join_found(crew.alloc(), columns, ends, parts.as_slice())
+    join_found(crew.alloc(), columns, ends, parts)
 }
 
 // The rows of these columns, from what their stretches know of the kin.

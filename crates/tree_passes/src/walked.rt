@@ -115,28 +115,31 @@ fn append(all: &mut Columns, more: &Columns) -> Result<(), AllocError>
     Ok(())
 }
 
-/// The columns of the rows of all stretches.
+/// The columns of the rows of all stretches. Those of a single stretch stay where they are.
 pub(crate) fn join_columns(
     alloc: Global,
     source: &Source<'_>,
     ends: &[usize],
-    parts: &[Columns],
+    mut parts: Vec<Columns>,
 ) -> Result<Columns, AllocError>
     requires cut { IsCut source.now.numbers.now ends.now }
-    requires many { length parts.now ≡ length ends.now }
-    requires each { (c : ℕ) (x : AnyColumns) → slice_get parts.now c ≡ Some x → AreColumnsOf source.now.text.now source.now.numbers.now ends.now c x.kinds.items x.lows.items x.tokens.items }
+    requires many { length parts.items ≡ length ends.now }
+    requires each { (c : ℕ) (x : AnyColumns) → slice_get parts.items c ≡ Some x → AreColumnsOf source.now.text.now source.now.numbers.now ends.now c x.kinds.items x.lows.items x.tokens.items }
     ensures { IfOk result (λ v. (r : Tree Prog) → IsParseOf source.now.text.now source.now.numbers.now r
         → AreStretch (left_parse r) (leaves r) 0 no_row (made_by (left_parse r)) v.kinds.items v.lows.items v.tokens.items) }
 {
     // The contract alone speaks of these.
     let _ = source;
     let _ = ends;
+    if parts.len() == 1 {
+        return Ok(parts.swap_remove(0));
+    }
     let mut all = Columns {
         kinds: Vec::new(alloc),
         lows: Vec::new(alloc),
         tokens: Vec::new(alloc),
     };
-    for part in parts {
+    for part in parts.as_slice() {
         append(&mut all, part)?;
     }
     Ok(all)
