@@ -9,7 +9,7 @@ use Rattle.source_meaning.specs.declared.kinds.Kind.{Kind}
 use Rattle.source_meaning.specs.declared.kinds.Kind.TheVariants.{Program as ProgramKind}
 use Rattle.source_meaning.specs.Ast.{Program}
 use Rattle.source_meaning.specs.Rows.{Row, Node, node, Nodes, last, next, node_rows, nodes_rows, functions_nodes, program_node, post}
-use Rattle.ast_rows.specs.NodeRows.{token_word, token_of, parent_numbers, lows_of, rows_from}
+use Rattle.ast_rows.specs.NodeRows.{AreTold, token_word, token_of, parent_numbers, lows_of, rows_from}
 use Rattle.ast_rows.specs.Subtrees.{node_lows, nodes_lows}
 use Rattle.row_laws.specs.Marks.{Mark, node_marks}
 use Rattle.row_laws.specs.Evals.{is_eval, settled}
@@ -17,7 +17,7 @@ use Rattle.row_laws.specs.Climbed.{mark_at, lows_from, parents_by, place_at, row
 use Rattle.row_rules.specs.Visible.{no_row}
 use Rattle.row_rules.specs.Alignment.{IsNamedProgram}
 use Rattle.folding.specs.Folding.{folded_program}
-use Rattle.folded_rows.specs.Columns.{Columns, columns_of, AreTold, gives_way_by, kind_by, number_in, value_in, many, kind_in, AreConstants, stays, kept, rank, new_kinds, new_lows, kept_tokens, new_tokens, new_parents, new_places, new_rows}
+use Rattle.folded_rows.specs.Columns.{Columns, columns_of, gives_way_by, kind_by, number_in, value_in, many, kind_in, AreConstants, stays, kept, rank, new_kinds, new_lows, kept_tokens, new_tokens, new_parents, new_places, new_rows}
 use Rattle.folded_rows.specs.Nodes.{node_value, keeps, fold_node}
 use Rattle.folded_rows.proofs.Along.{Along, along_both, along_all, filter_picks, bit}
 use Rattle.folded_rows.proofs.Picked.{size, sizes, rows_many, keeps_many, Info, infos_by, infos_told, olds, olds_all, olds_many, olds_all_many, node_picked, Ranked}
@@ -41,7 +41,7 @@ rows_there rows told = along_all (RowIs (columns_of rows)) rows 0 no_row (λ k h
   kind_is = get_or-map (λ (r : Row). r.kind) rows k no_row ProgramKind h;
   parent_is = parents_there rows 0 k h ∙ (let e : (0 + k) + (get_or rows k no_row).up ≡ k + (get_or rows k no_row).up = omega arith in e);
   place_is = get_or-map (λ (r : Row). r.place) rows k no_row 0 h;
-  token_is = ap token_of (get_or-map (λ (r : Row). token_word r.token) rows k no_row 0 h) ∙ told k h;
+  token_is = ap token_of (get_or-map (λ (r : Row). token_word r.token) rows k no_row 0 h) ∙ told no_row k h;
 }))
 
 pub lows_there : (c : Columns) (ls : List ℕ) → c.lows ≡ ls → Lows c 0 ls

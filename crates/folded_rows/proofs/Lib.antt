@@ -1,4 +1,5 @@
 pub mod Along
+pub mod Complete
 pub mod FoldedNodes
 pub mod FoldedMarks
 pub mod Picked

@@ -8,8 +8,7 @@ use Rattle.source_meaning.specs.declared.kinds.ValueType.TheVariants.{Int, Bool 
 use Rattle.source_meaning.specs.Operators.{flag, unary_value, binary_value}
 use Rattle.source_meaning.specs.Typing.{unary_operand, binary_type, group_of}
 use Rattle.source_meaning.specs.Rows.{Row}
-use Rattle.ast_rows.specs.NodeRows.{token_word, token_of, parent_numbers, lows_of, rows_from}
-use Rattle.row_rules.specs.Visible.{no_row}
+use Rattle.ast_rows.specs.NodeRows.{token_word, parent_numbers, lows_of, rows_from}
 use Rattle.row_laws.specs.Evals.{is_eval}
 use Rattle.row_laws.specs.Climbed.{parents_by, place_at}
 
@@ -29,10 +28,6 @@ columns_of rows = record {
   places = map (λ r. r.place) rows;
   lows = lows_of (parent_numbers 0 rows);
 }
-
--- the own tokens of rows are told by their words, since no token has the number that stands for none
-abbrev pub AreTold : List Row → Type 0
-AreTold rows = (k : ℕ) → k < length rows → token_of (token_word (slice_index_or rows k no_row).token) ≡ (slice_index_or rows k no_row).token
 
 -- ---- the constant that a row is, by those that its last two children are
 
@@ -86,6 +81,20 @@ kind_by And (Some x) = constant_kind BoolType x
 kind_by Or (Some x) = constant_kind BoolType x
 kind_by kind (Some x) = kind
 
+-- a constant in itself
+abbrev pub is_literal : Kind → Bool
+is_literal (Num v) = true
+is_literal (Truth b) = true
+is_literal kind = false
+
+-- an operator that folding changes as it stands, by which of its last two children are literals
+abbrev pub folds_by : Kind → (left right : Bool) → Bool
+folds_by (Unary op) left right = right
+folds_by (Binary op) left right = right && left
+folds_by And left right = left
+folds_by Or left right = left
+folds_by kind left right = false
+
 abbrev pub number_in : List ℕ → ℕ → ℕ
 number_in column k = slice_index_or column k 0
 
@@ -109,6 +118,13 @@ module _ (c : Columns) where
   -- the constants that rows are, None where a row is none: each by its children
   abbrev pub AreConstants : List (Option ℕ) → Type 0
   AreConstants values = (k : ℕ) → k < many → value_in values k ≡ constant_by (kind_in k) (value_in values (left_of k)) (value_in values (right_of k))
+
+  -- the operators that fold as they stand, in order: where there is none, nothing folds
+  abbrev pub folds : ℕ → Bool
+  folds k = folds_by (kind_in k) (is_literal (kind_in (left_of k))) (is_literal (kind_in (right_of k)))
+
+  abbrev pub folding : List ℕ
+  folding = filter folds (range_with_len 0 many)
 
   module _ (values : List (Option ℕ)) where
     -- ---- which rows stay

@@ -68,7 +68,9 @@ is_foldable kind = is_operator kind
 module _ (c : Columns) where
   -- the operands of an operator are its children
   abbrev pub AreLinked : Type 0
-  AreLinked = (k : ℕ) → k < many c → (is_operator (kind_in c k) ≡ true → number_in c.parents (right_of c k) ≡ k) × (has_left (kind_in c k) ≡ true → number_in c.parents (left_of c k) ≡ k)
+  AreLinked =
+      (k : ℕ) → k < many c → (is_operator (kind_in c k) ≡ true → number_in c.parents (right_of c k) ≡ k)
+      × (has_left (kind_in c k) ≡ true → number_in c.parents (left_of c k) ≡ k)
 
   -- heights of rows: an operator is higher than its operands, and what may be a constant is at most n high
   pub record AreHeights (n : ℕ) (height : ℕ → ℕ) : Type 0 where

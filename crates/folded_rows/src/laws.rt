@@ -4,12 +4,15 @@ ghost use Rattle.source_meaning.specs.Ast.{Program as Source};
 ghost use Rattle.source_meaning.specs.Rows.{post};
 ghost use Rattle.source_meaning.specs.Scope.{scope_faults};
 ghost use Rattle.source_meaning.specs.Shape.{shape_faults};
+ghost use Rattle.ast_rows.specs.NodeRows.{AreTold};
 ghost use Rattle.row_rules.specs.Means.{AreNames};
+ghost use Rattle.folding.specs.Complete.{IsCompleteProgram};
 ghost use Rattle.folding.specs.Folding.{folded_program};
 ghost use Rattle.folded_rows.specs.Levels.{AreHeights, AreLinked, program_levels};
-ghost use Rattle.folded_rows.specs.Columns.{AreConstants, AreTold, columns_of, new_declared, new_meant, new_rows, rank};
+ghost use Rattle.folded_rows.specs.Columns.{AreConstants, columns_of, folding, new_declared, new_meant, new_rows, rank};
 
 use ast_rows::parents_tell_subtrees;
+use folding::folding_is_complete;
 use row_laws::{evals_settle, marks_tell_programs};
 use row_rules::shaped_is_named;
 
@@ -43,4 +46,13 @@ pub fn rows_have_levels()
     ensures heights { (p : Source) → AreTold (post p) → (height : ℕ → ℕ) × AreHeights (columns_of (post p)) (program_levels p) height }
 {
     parents_tell_subtrees();
+}
+
+/// Where no operator folds as it stands, nothing is left to fold, and a program is its folded one.
+pub fn nothing_folds()
+    ensures complete { (p : Source) → AreTold (post p) → folding (columns_of (post p)) ≡ [] → IsCompleteProgram p }
+    ensures same { (p : Source) → AreTold (post p) → folding (columns_of (post p)) ≡ [] → folded_program p ≡ p }
+{
+    parents_tell_subtrees();
+    folding_is_complete();
 }

@@ -4,5 +4,5 @@
 mod laws;
 mod worked;
 
-pub use laws::{folded_names_are, folded_rows_are, rows_have_levels};
+pub use laws::{folded_names_are, folded_rows_are, nothing_folds, rows_have_levels};
 pub use worked::{worked_differences, worked_short_circuits};

@@ -1,0 +1,4 @@
+pub mod Rounds
+pub mod Staying
+pub mod Folded
+pub mod Ties

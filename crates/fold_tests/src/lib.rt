@@ -1,0 +1,5 @@
+//! Tests of folding.
+#![tactic(auto)]
+
+#[cfg(test)]
+mod folds;
