@@ -14,7 +14,7 @@ use Rattle.clap.specs.Walk.{Text, Rule, Row, Held, Names, Outcome, done, waits, 
 use Rattle.clap.specs.Faults.{use_fault, settle_fault, react_fault, option_fault, long_fault, short_fault, bundle_step_fault, flags_fault, bundle_fault, flag_word_fault, other_fault, word_fault, positional_fault, stray_fault, step_fault, turn_fault, walk_fault, given_default_fault, default_fault, defaults_fault, values_fault, check_fault, level_fault}
 use Rattle.clap.specs.declared.error.kind.ErrorKind.TheVariants as kind
 use Rattle.clap.specs.declared.parser.matches.ValueSource.TheVariants.{DefaultValue}
-use Rattle.command_line.proofs.Rows.{both_none, AreGood, AreOptions, IsOption, found_option, used_good, passing, with_values_good, values_row, keeps_row, first_good}
+use Rattle.command_line.proofs.Rows.{both_none, AreGood, AreOptions, IsOption, IsTested, found_option, used_good, passing, with_values_good, values_row, keeps_row, first_good}
 
 module _ (ok : Text → Text → Bool) (c : List Rule) (options : AreOptions ok c) (again : Bool) where
   abbrev Good : Held → Type 0
@@ -175,11 +175,15 @@ module _ (ok : Text → Text → Bool) where
   default_good : (rows : List Row) (a : Rule) → IsOption ok a → default_fault rows a ≡ [] → AreGood ok rows → AreGood ok (with_default rows a)
   default_good rows a is f good = go (has_row a.id rows) a.defaults f
     where
-      given : (ds : List Text) (d : Text) → IsOption ok a → given_default_fault a (d ∷ ds) ≡ [] → AreGood ok (with_values a.id (reading_by a) DefaultValue (d ∷ ds) rows)
-      given ds d (inl n) f =
+      kept : (ds : List Text) (d : Text) → IsTested ok a → given_default_fault a (d ∷ ds) ≡ [] → AreGood ok (with_values a.id (reading_by a) DefaultValue (d ∷ ds) rows)
+      kept ds d tested f =
           let parts = both_none (request_kinds (action_of a)) (values_fault a (d ∷ ds)) f in
-          with_values_good ok a.id (reading_by a) DefaultValue (d ∷ ds) rows (omega arith) (passing ok a n (d ∷ ds) parts.1) good
-      given ds d (inr e) f =
+          with_values_good ok a.id (reading_by a) DefaultValue (d ∷ ds) rows (omega arith) (passing ok a tested (d ∷ ds) parts.1) good
+
+      given : (ds : List Text) (d : Text) → IsOption ok a → given_default_fault a (d ∷ ds) ≡ [] → AreGood ok (with_values a.id (reading_by a) DefaultValue (d ∷ ds) rows)
+      given ds d (inl n) f = kept ds d n.tested f
+      given ds d (inr (inl n)) f = kept ds d n.tested f
+      given ds d (inr (inr e)) f =
           let parts = both_none (request_kinds (action_of a)) (values_fault a (d ∷ ds)) f in
           let asks = rw e at parts.0 in
           cc

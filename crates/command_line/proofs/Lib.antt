@@ -4,3 +4,4 @@ mod Levels
 mod Taken
 mod Matched
 mod Numbers
+mod Flags

@@ -1,7 +1,8 @@
 -- The values of options in the rows that a parse keeps have passed a test.
-use Rattle.std.proofs.Common.{◌≡◌, ◌∙◌, ◌<◌, ◌||◌, ◌⊎◌, Bool, cond, true, false, refl, sym, ap, subst, arith, List, [], ◌∷◌, ◌++◌, length, Some, inl, inr, unwrap_or, length-append}
+use Rattle.std.proofs.Common.{◌≡◌, ◌∙◌, ◌<◌, ◌||◌, ◌⊎◌, ℕ, suc, Bool, cond, true, false, refl, sym, ap, subst, arith, List, [], ◌∷◌, ◌++◌, length, Some, inl, inr, unwrap_or, length-append}
 use Rattle.std.specs.Prelude.{find, slice_get}
 use Rattle.std.specs.Str.{bytes_eq}
+use Rattle.std.proofs.lemmas.Bool.{ne_eqb}
 use Rattle.std.proofs.lemmas.Slice.Eq.{bytes_eq-Decides}
 use Rattle.clap.specs.Facts.{parser_of_value, unwrap_or_range}
 use Rattle.clap.specs.ValueTests.{accepts}
@@ -9,7 +10,7 @@ use Rattle.clap.specs.Values.{refused_kind}
 use Rattle.clap.specs.Kinds.{Kinds, or_else, range_kinds}
 use Rattle.clap.specs.Walk.{Text, Rule, Row, at_row, more_values, without, with_values, has_row, used, first_of, most_values, action_of, values_or_missing}
 use Rattle.clap.specs.Faults.{values_fault, use_fault, action_fault, repeat_fault}
-use Rattle.clap.specs.declared.builder.action.ArgAction.TheVariants.{Set, Help}
+use Rattle.clap.specs.declared.builder.action.ArgAction.TheVariants.{Set, SetTrue, Help}
 use Rattle.clap.specs.declared.builder.range.ValueRange.{ValueRange}
 use Rattle.clap.specs.declared.builder.value_parser.Reading.{Reading}
 use Rattle.clap.specs.declared.error.kind.ErrorKind.{ErrorKind}
@@ -27,6 +28,14 @@ passed false k h = cc
 abbrev pub one_value : ValueRange
 one_value = record { start_inclusive = 1; end_inclusive = 1 }
 
+abbrev pub no_value : ValueRange
+no_value = record { start_inclusive = 0; end_inclusive = 0 }
+
+no_more : (n : ℕ) → range_kinds 0 0 (suc n) ≡ [] → ⊥
+no_more n h =
+    let e = rw (ne_eqb 0 (suc n) (λ e. absurd (omega arith))) at h in
+    cc
+
 -- `ok id text`: the text is a value of the option id
 module _ (ok : Text → Text → Bool) where
   abbrev pub Passing : Text → List Text → Type 0
@@ -40,14 +49,27 @@ module _ (ok : Text → Text → Bool) where
   AreGood [] = Unit {0}
   AreGood (r ∷ rs) = IsGood r × AreGood rs
 
-  -- an option with one value, which the test decides, or the flag that asks for help
+  -- the test decides the values
+  abbrev pub IsTested : Rule → Type 0
+  IsTested a = (t : Text) → accepts a.ignore_case (parser_of_value a.parser) t ≡ ok a.id t
+
+  -- an option with one value
   pub record IsNumber (a : Rule) : Type 0 where
     pub sets : a.action ≡ Some Set
     pub one : a.range ≡ Some one_value
-    pub tested : (t : Text) → accepts a.ignore_case (parser_of_value a.parser) t ≡ ok a.id t
+    pub tested : IsTested a
 
+  -- a flag, and the value of its use
+  pub record IsFlag (a : Rule) : Type 0 where
+    pub sets : a.action ≡ Some SetTrue
+    pub none : a.range ≡ Some no_value
+    pub text : Text
+    pub used_for : a.missing ≡ text ∷ []
+    pub tested : IsTested a
+
+  -- either of them, or the flag that asks for help
   abbrev pub IsOption : Rule → Type 0
-  IsOption a = IsNumber a ⊎ (a.action ≡ Some Help)
+  IsOption a = IsNumber a ⊎ (IsFlag a ⊎ (a.action ≡ Some Help))
 
   abbrev pub AreOptions : List Rule → Type 0
   AreOptions [] = Unit {0}
@@ -61,11 +83,11 @@ module _ (ok : Text → Text → Bool) where
       go true e rec = subst IsOption (ap (λ o. unwrap_or o x) e) all.0
       go false e rec = rec e
 
-  pub passing : (a : Rule) → IsNumber a → (ts : List Text) → values_fault a ts ≡ [] → Passing a.id ts
-  passing a n [] h = tt
-  passing a n (t ∷ ts) h =
+  pub passing : (a : Rule) → IsTested a → (ts : List Text) → values_fault a ts ≡ [] → Passing a.id ts
+  passing a tested [] h = tt
+  passing a tested (t ∷ ts) h =
       let parts = both_none (cond (accepts a.ignore_case (parser_of_value a.parser) t) [] (refused_kind (parser_of_value a.parser) ∷ [])) (values_fault a ts) h in
-      (sym (n.tested t) ∙ passed (accepts a.ignore_case (parser_of_value a.parser) t) (refused_kind (parser_of_value a.parser)) parts.0, passing a n ts parts.1)
+      (sym (tested t) ∙ passed (accepts a.ignore_case (parser_of_value a.parser) t) (refused_kind (parser_of_value a.parser)) parts.0, passing a tested ts parts.1)
 
   append_passing : (id : Text) (xs ys : List Text) → Passing id xs → Passing id ys → Passing id (xs ++ ys)
   append_passing id [] ys p q = q
@@ -105,8 +127,19 @@ module _ (ok : Text → Text → Bool) where
   used_number again a (v ∷ vs) rows n h good =
       let parts = both_none (range_kinds (unwrap_or_range a.range).start_inclusive (most_values a) (length (v ∷ vs))) (action_fault (action_of a) again a (v ∷ vs) rows) h in
       let set = rw n.sets at parts.1 in
-      let passes = passing a n (v ∷ vs) (both_none (repeat_fault again a.id rows) (values_fault a (v ∷ vs)) set).1 in
+      let passes = passing a n.tested (v ∷ vs) (both_none (repeat_fault again a.id rows) (values_fault a (v ∷ vs)) set).1 in
       rw n.sets (with_values_good a.id _ CommandLine (v ∷ vs) (without a.id rows) (omega arith) passes (without_good a.id rows good))
+
+  used_flag : (again : Bool) (a : Rule) (vs : List Text) (rows : List Row) → IsFlag a → use_fault again a vs rows ≡ [] → AreGood rows → AreGood (used a vs rows)
+  used_flag again a [] rows n h good =
+      let parts = both_none (range_kinds (unwrap_or_range a.range).start_inclusive (most_values a) 0) (action_fault (action_of a) again a a.missing rows) h in
+      let set = rw n.sets at parts.1 in
+      let passes = passing a n.tested a.missing (both_none (repeat_fault again a.id rows) (values_fault a a.missing) set).1 in
+      let some : 0 < length a.missing = rw n.used_for (omega arith) in
+      rw n.sets (with_values_good a.id _ CommandLine a.missing (without a.id rows) some passes (without_good a.id rows good))
+  used_flag again a (v ∷ vs) rows n h good =
+      let parts = both_none (range_kinds (unwrap_or_range a.range).start_inclusive (most_values a) (length (v ∷ vs))) (action_fault (action_of a) again a (v ∷ vs) rows) h in
+      absurd (no_more (length vs) (rw n.none at parts.0))
 
   used_help : (again : Bool) (a : Rule) (vs : List Text) (rows : List Row) → a.action ≡ Some Help → use_fault again a vs rows ≡ [] → ⊥
   used_help again a vs rows e h =
@@ -116,7 +149,8 @@ module _ (ok : Text → Text → Bool) where
 
   pub used_good : (again : Bool) (a : Rule) (vs : List Text) (rows : List Row) → IsOption a → use_fault again a vs rows ≡ [] → AreGood rows → AreGood (used a vs rows)
   used_good again a vs rows (inl n) h good = used_number again a vs rows n h good
-  used_good again a vs rows (inr e) h good = absurd (used_help again a vs rows e h)
+  used_good again a vs rows (inr (inl n)) h good = used_flag again a vs rows n h good
+  used_good again a vs rows (inr (inr e)) h good = absurd (used_help again a vs rows e h)
 
   first_value : (id : Text) (vs : List Text) → 0 < length vs → Passing id vs → (t : Text) × (slice_get vs 0 ≡ Some t) × (ok id t ≡ true)
   first_value id [] some passes = absurd (omega arith)

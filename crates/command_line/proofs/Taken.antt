@@ -5,7 +5,7 @@ use Rattle.std.specs.Option.{option_map_or}
 use Rattle.std.specs.List.{slice_index_or}
 use Rattle.std.proofs.lemmas.Slice.Eq.{bytes_eq-Decides}
 use Rattle.clap.specs.Lexer.{long_of, short_of}
-use Rattle.clap.specs.ValueTests.{is_unsigned_in}
+use Rattle.clap.specs.ValueTests.{accepts, is_unsigned_in}
 use Rattle.clap.specs.declared.builder.value_parser.ValueParser.TheVariants as parsers
 use Rattle.clap.specs.declared.error.kind.ErrorKind.TheVariants as kind
 use Rattle.clap.specs.Kinds.{or_else}
@@ -13,7 +13,7 @@ use Rattle.clap.specs.Simple.{Shape, argument_words, built, entered, filled, wit
 use Rattle.clap.specs.Walk.{Text, Rule, Row, Held, Names, Outcome, done, waits, plain, refused, Step, next, trailing, subcommand, value, Waiting, idle, option, positional, Walk, answers_to, arg_by_index, plain_word, after_flag, long_or_other, short_or_plain, subcommand_met, subcommand_or_other, word_met, to_positional, after_step, walked_from, walked, walk, walk_from, settled, finished, nothing_held, rows_after}
 use Rattle.clap.specs.Faults.{walk_fault, turn_fault, word_fault, other_fault, step_fault, settle_fault, defaults_fault, check_fault, level_fault, entered_fault, built_fault, fault_of}
 use Rattle.clap.proofs.ValueTestLemmas.{accepts-Accepts}
-use Rattle.command_line.specs.Words.{app, value_option, with_default, required, workers_option, chunk_option, steps_option, seed_option, functions_option}
+use Rattle.command_line.specs.Words.{app, value_option, with_default, required, workers_option, chunk_option, steps_option, fold_option, seed_option, functions_option}
 use Rattle.command_line.specs.Ranges.{HasNumber, HasPlan, HasSteps, HasText, HasNumbers, of_build, of_run, of_emu, of_dump, of_asm, of_table, of_drill}
 use Rattle.command_line.proofs.Rows.{both_none, AreOptions, IsOption}
 use Rattle.command_line.proofs.Levels.{IsThere, here, wanted, later, level_value}
@@ -27,6 +27,7 @@ tested id text =
     else if bytes_eq id (codes "chunk") then is_unsigned_in 1 65536 text
     else if bytes_eq id (codes "seed") then is_unsigned_in 0 4294967295 text
     else if bytes_eq id (codes "functions") then is_unsigned_in 1 4096 text
+    else if bytes_eq id (codes "fold") then accepts false parsers.Bool text
     else is_unsigned_in 0 1000000000 text
 
 number_of : (s : Shape) (words : List Text) (id : Text) (low high : ℕ) → AreOptions tested s.rules → IsThere id s.rules
@@ -186,6 +187,9 @@ chunk_is = is_number (codes "chunk") (codes "1024") 1 65536 (λ t. refl)
 steps_is : IsOption tested (with_index 1 (filled steps_option))
 steps_is = is_number (codes "steps") (codes "1000000") 0 1000000000 (λ t. refl)
 
+fold_is : IsOption tested (with_index 1 (filled fold_option))
+fold_is = inr (inl (record { sets = refl; none = refl; text = codes "true"; used_for = refl; tested = λ t. refl }))
+
 seed_is : IsOption tested (with_index 1 (filled seed_option))
 seed_is = is_required (codes "seed") 0 4294967295 (λ t. refl)
 
@@ -193,16 +197,16 @@ functions_is : IsOption tested (with_index 1 (filled functions_option))
 functions_is = is_required (codes "functions") 1 4096 (λ t. refl)
 
 plan_options : AreOptions tested (built_sub 0).rules
-plan_options = (workers_is, (chunk_is, (inr refl, tt)))
+plan_options = (workers_is, (chunk_is, (fold_is, (inr (inr refl), tt))))
 
 run_options : AreOptions tested (built_sub 1).rules
-run_options = (workers_is, (chunk_is, (steps_is, (inr refl, tt))))
+run_options = (workers_is, (chunk_is, (steps_is, (fold_is, (inr (inr refl), tt)))))
 
 emu_options : AreOptions tested (built_sub 2).rules
-emu_options = (steps_is, (inr refl, tt))
+emu_options = (steps_is, (inr (inr refl), tt))
 
 drill_options : AreOptions tested (built_sub 6).rules
-drill_options = (seed_is, (functions_is, (workers_is, (chunk_is, (inr refl, tt)))))
+drill_options = (seed_is, (functions_is, (workers_is, (chunk_is, (inr (inr refl), tt)))))
 
 build_takes : (word : Text) → Takes word (built_sub 0)
 build_takes word words e f = of_build (plan_of_words (built_sub 0) words plan_options (here _ refl refl) (later (here _ refl refl)) f)

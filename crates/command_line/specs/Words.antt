@@ -1,10 +1,11 @@
 -- The program's command line, as a command of `clap`, and what its words ask for.
-use Rattle.std.specs.Prelude.{ℕ, true, false, List, [], ◌∷◌, Option, Some, None, option_map, codes, unwrap_or, bytes_eq, if◌then◌else◌}
+use Rattle.std.specs.Prelude.{ℕ, Bool, true, false, List, [], ◌∷◌, Option, Some, None, option_map, codes, unwrap_or, bytes_eq, if◌then◌else◌}
+use Rattle.std.specs.Option.{option_map_or}
 use Rattle.std.specs.Str.Parse.{digits_value, without_leading_plus}
-use Rattle.clap.specs.Walk.{Text, Rule, Row, first_of, is_empty}
+use Rattle.clap.specs.Walk.{Text, Rule, Row, first_of, one_of, is_empty}
 use Rattle.clap.specs.Simple.{Shape, App, new_shape, new_rule, subcommand_of}
 use Rattle.clap.specs.Faults.{fault_of}
-use Rattle.clap.specs.declared.builder.action.ArgAction.TheVariants.{Set}
+use Rattle.clap.specs.declared.builder.action.ArgAction.TheVariants.{Set, SetTrue}
 use Rattle.clap.specs.declared.builder.value_parser.ValueParser.{ValueParser}
 use Rattle.clap.specs.declared.builder.value_parser.ValueParser.TheVariants as parsers
 use Rattle.command_line.specs.declared.command.Command.{Command}
@@ -36,6 +37,10 @@ chunk_option = with_default (value_option (codes "chunk") (parsers.Unsigned 1 65
 abbrev pub steps_option : Rule
 steps_option = with_default (value_option (codes "steps") (parsers.Unsigned 0 1000000000)) (codes "1000000")
 
+-- a flag: given or not, with no value
+abbrev pub fold_option : Rule
+fold_option = record (new_rule (codes "fold")) { long = Some (codes "fold"); action = Some SetTrue }
+
 abbrev pub seed_option : Rule
 seed_option = required (value_option (codes "seed") (parsers.Unsigned 0 4294967295))
 
@@ -50,10 +55,10 @@ abbrev pub subcommand : Text → List Rule → Shape
 subcommand name options = record (new_shape name) { rules = options }
 
 abbrev pub build_shape : Shape
-build_shape = subcommand (codes "build") (workers_option ∷ chunk_option ∷ [])
+build_shape = subcommand (codes "build") (workers_option ∷ chunk_option ∷ fold_option ∷ [])
 
 abbrev pub run_shape : Shape
-run_shape = subcommand (codes "run") (workers_option ∷ chunk_option ∷ steps_option ∷ [])
+run_shape = subcommand (codes "run") (workers_option ∷ chunk_option ∷ steps_option ∷ fold_option ∷ [])
 
 abbrev pub emu_shape : Shape
 emu_shape = subcommand (codes "emu") (steps_option ∷ [])
@@ -90,6 +95,10 @@ app = record {
 abbrev pub number_at : Text → List Row → ℕ
 number_at name rows = digits_value 10 (without_leading_plus (unwrap_or (first_of name rows) []))
 
+-- whether a flag was given: `true` is its value then, and `false` by default
+abbrev pub flag_at : Text → List Row → Bool
+flag_at name rows = option_map_or (λ text. bytes_eq text (codes "true")) (one_of name rows) false
+
 -- a command, and how its work is shared out
 pub record Asked : Type 0 where
   pub command : Command
@@ -103,8 +112,8 @@ shared_out command rows =
 -- what a subcommand asks for with its options; `emu`, `dump`, `asm` and `table` have no options for sharing
 abbrev pub asked_by : Text → List Row → Asked
 asked_by name rows =
-    if bytes_eq name (codes "build") then shared_out Build rows
-    else if bytes_eq name (codes "run") then shared_out (Run (number_at (codes "steps") rows)) rows
+    if bytes_eq name (codes "build") then shared_out (Build (flag_at (codes "fold") rows)) rows
+    else if bytes_eq name (codes "run") then shared_out (Run (number_at (codes "steps") rows) (flag_at (codes "fold") rows)) rows
     else if bytes_eq name (codes "emu") then record { command = Emu (number_at (codes "steps") rows); workers = 1; chunk = 1 }
     else if bytes_eq name (codes "dump") then record { command = Dump; workers = 1; chunk = 1 }
     else if bytes_eq name (codes "asm") then record { command = Asm; workers = 1; chunk = 1 }

@@ -6,11 +6,16 @@ use crate::word::Word;
 #[derive(Debug, Drop)]
 pub enum Command {
     /// Compiles the source on the input to an executable file on the output.
-    Build,
+    Build {
+        /// Whether the constants of the program are folded.
+        fold: bool,
+    },
     /// Compiles the source on the input, and runs its file on the machine for at most `steps` steps.
     Run {
         /// The most steps.
         steps: u32,
+        /// Whether the constants of the program are folded.
+        fold: bool,
     },
     /// Runs the executable file on the input on the machine for at most `steps` steps.
     Emu {

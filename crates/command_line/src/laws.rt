@@ -1,5 +1,5 @@
 //! What the definitions say of words.
-ghost use Rattle.std.specs.Prelude.{◌≡◌, ℕ, List, [], ◌∷◌, Some, None, codes};
+ghost use Rattle.std.specs.Prelude.{◌≡◌, ℕ, List, [], ◌∷◌, Some, None, true, false, codes};
 ghost use Rattle.clap.specs.Words.{fault_of};
 ghost use Rattle.command_line.specs.declared.command.Command.TheVariants.{Build, Run, Emu, Dump, Asm, Table, Drill};
 ghost use Rattle.command_line.specs.Words.{Asked, app, asked};
@@ -11,8 +11,13 @@ pub fn taken_words_ask()
 
 /// What some words ask for.
 pub fn worked_words()
-    ensures build { asked (codes "pareas" ∷ codes "build" ∷ []) ≡ Some (record { command = Build; workers = 4; chunk = 1024 }) }
-    ensures options { asked (codes "pareas" ∷ codes "run" ∷ codes "--steps=14" ∷ codes "--workers" ∷ codes "64" ∷ []) ≡ Some (record { command = Run 14; workers = 64; chunk = 1024 }) }
+    ensures build { asked (codes "pareas" ∷ codes "build" ∷ []) ≡ Some (record { command = Build false; workers = 4; chunk = 1024 }) }
+    ensures fold { asked (codes "pareas" ∷ codes "build" ∷ codes "--fold" ∷ []) ≡ Some (record { command = Build true; workers = 4; chunk = 1024 }) }
+    ensures fold_run { asked (codes "pareas" ∷ codes "run" ∷ codes "--fold" ∷ codes "--steps" ∷ codes "14" ∷ []) ≡ Some (record { command = Run 14 true; workers = 4; chunk = 1024 }) }
+    ensures fold_twice { asked (codes "pareas" ∷ codes "build" ∷ codes "--fold" ∷ codes "--fold" ∷ []) ≡ None }
+    ensures fold_valued { asked (codes "pareas" ∷ codes "build" ∷ codes "--fold=true" ∷ []) ≡ None }
+    ensures fold_elsewhere { asked (codes "pareas" ∷ codes "emu" ∷ codes "--fold" ∷ []) ≡ None }
+    ensures options { asked (codes "pareas" ∷ codes "run" ∷ codes "--steps=14" ∷ codes "--workers" ∷ codes "64" ∷ []) ≡ Some (record { command = Run 14 false; workers = 64; chunk = 1024 }) }
     ensures emu { asked (codes "pareas" ∷ codes "emu" ∷ []) ≡ Some (record { command = Emu 1000000; workers = 1; chunk = 1 }) }
     ensures dump { asked (codes "pareas" ∷ codes "dump" ∷ []) ≡ Some (record { command = Dump; workers = 1; chunk = 1 }) }
     ensures asm { asked (codes "pareas" ∷ codes "asm" ∷ []) ≡ Some (record { command = Asm; workers = 1; chunk = 1 }) }

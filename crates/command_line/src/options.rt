@@ -3,7 +3,7 @@
 
 ghost use Rattle.std.specs.Prelude.{◌≡◌, IfOk, false};
 ghost use Rattle.clap.specs.Words.{app_of, rule_of, shape_of};
-ghost use Rattle.command_line.specs.Words.{app, bare_app, build_shape, run_shape, emu_shape, dump_shape, asm_shape, table_shape, drill_shape, workers_option, chunk_option, steps_option, seed_option, functions_option, word_option, value_option, with_default, required};
+ghost use Rattle.command_line.specs.Words.{app, bare_app, build_shape, run_shape, emu_shape, dump_shape, asm_shape, table_shape, drill_shape, workers_option, chunk_option, steps_option, fold_option, seed_option, functions_option, word_option, value_option, with_default, required};
 
 use clap::builder::ValueParser;
 use clap::{Arg, ArgAction, Command, value_parser};
@@ -84,6 +84,16 @@ fn steps<'a>(alloc: Global) -> Arg<'a>
     default_option(alloc, "steps", "M", numbers, "1000000", help)
 }
 
+fn fold<'a>(alloc: Global) -> Arg<'a>
+    ensures rule { rule_of result ≡ fold_option }
+    ensures local { result.global ≡ false }
+{
+    Arg::new(alloc, "fold")
+        .long("fold")
+        .action(ArgAction::SetTrue)
+        .help("Fold the constants of the program")
+}
+
 fn seed<'a>(alloc: Global) -> Arg<'a>
     ensures rule { rule_of result ≡ seed_option }
     ensures local { result.global ≡ false }
@@ -119,7 +129,8 @@ fn build<'a>(alloc: Global) -> Result<Command<'a>, AllocError>
             "Compiles a program: source on standard input, ELF file for RV32IM on standard output",
         )
         .arg(workers(alloc))?
-        .arg(chunk(alloc))
+        .arg(chunk(alloc))?
+        .arg(fold(alloc))
 }
 
 #[inline(never)]
@@ -132,7 +143,8 @@ fn run<'a>(alloc: Global) -> Result<Command<'a>, AllocError>
         )
         .arg(workers(alloc))?
         .arg(chunk(alloc))?
-        .arg(steps(alloc))
+        .arg(steps(alloc))?
+        .arg(fold(alloc))
 }
 
 #[inline(never)]

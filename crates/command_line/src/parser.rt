@@ -3,7 +3,7 @@
 ghost use Rattle.std.specs.Prelude.{◌≡◌, Some, None, IfOk, map, string_bytes, codes, IfErr};
 ghost use Rattle.clap.specs.Words.{first_of, found_of, rows_of, kind_of};
 ghost use Rattle.command_line.specs.Ranges.{HasNumber, HasPlan, HasSteps, HasNumbers};
-ghost use Rattle.command_line.specs.Words.{asked, asked_by, number_at};
+ghost use Rattle.command_line.specs.Words.{asked, asked_by, number_at, flag_at};
 ghost use Rattle.command_line.specs.Refused.{IsUsage};
 ghost use Rattle.clap.specs.declared.error.kind.ErrorKind.TheVariants as ErrorKind;
 
@@ -43,6 +43,13 @@ fn number(matches: &ArgMatches<'_>, name: &str) -> u32
     matches.get_str(name).unwrap().parse::<u32>().unwrap()
 }
 
+// Whether a flag was given. It is what `get_flag` gives, whose clauses leave out values that are no truth value.
+fn flag(matches: &ArgMatches<'_>, name: &str) -> bool
+    ensures { result ≡ flag_at name.now (rows_of (found_of matches.now)) }
+{
+    matches.get_one::<bool>(name).unwrap_or(false)
+}
+
 // How the work is shared out, by the options of a subcommand that has them.
 fn plan(options: &ArgMatches<'_>) -> Plan
     requires { HasPlan (rows_of (found_of options.now)) }
@@ -80,12 +87,15 @@ fn request(alloc: Global, name: &str, options: &ArgMatches<'_>) -> Result<Reques
 {
     let request = match name {
         "build" => Request {
-            command: Command::Build,
+            command: Command::Build {
+                fold: flag(options, "fold"),
+            },
             plan: plan(options),
         },
         "run" => Request {
             command: Command::Run {
                 steps: number(options, "steps"),
+                fold: flag(options, "fold"),
             },
             plan: plan(options),
         },

@@ -1,6 +1,6 @@
 -- What the front of the compiler finds of a source: its tokens, the rows of its syntax tree, what its names mean and the types of its
 -- expressions; or its first diagnostic, where that is of the phases up to types.
-use Rattle.std.specs.Prelude.{◌≡◌, ℕ, ◌≤◌, List, [], length, map, None, slice_index_or}
+use Rattle.std.specs.Prelude.{◌≡◌, ℕ, ◌≤◌, Bool, List, [], length, map, None, slice_index_or}
 use Rattle.limits.specs.Limits.{most_source}
 use Rattle.ast_rows.specs.TokenRows.{TokenRow, row_of}
 use Rattle.ast_rows.specs.NameRows.{NameRows}
@@ -52,8 +52,12 @@ pub record IsAnalysis (text : List ℕ) (t : Tree Prog) (f : Analysis) : Type 0 
   pub numbers_many : length f.names.numbers ≡ length f.rows
   pub types_are : f.types ≡ types (ast t)
 
--- the refusal is what the compiler says of the source
-abbrev pub IsRefusedBy : List ℕ → Refusal → Type 0
-IsRefusedBy text (Diagnostic code at) = IsVerdict text (Diagnosed code at)
-IsRefusedBy text (Limit code at bytes) = IsVerdict text (Limited code at bytes)
-IsRefusedBy text NoMemory = Unit {0}
+-- the refusal is what the compiler says of the source, where its constants are folded or not
+abbrev pub IsRefusedBy : Bool → List ℕ → Refusal → Type 0
+IsRefusedBy fold text (Diagnostic code at) = IsVerdict fold text (Diagnosed code at)
+IsRefusedBy fold text (Limit code at bytes) = IsVerdict fold text (Limited code at bytes)
+IsRefusedBy fold text NoMemory = Unit {0}
+
+-- the refusal is what the compiler says of the source in both cases
+abbrev pub IsRefused : List ℕ → Refusal → Type 0
+IsRefused text r = (fold : Bool) → IsRefusedBy fold text r

@@ -4,7 +4,7 @@ ghost use Rattle.limits.specs.Limits.{most_source};
 ghost use Rattle.grammar_file.specs.Spelling.{IsReduced};
 ghost use Rattle.llp_tables.specs.EntryTable.{AreTablesOf};
 ghost use Rattle.source_meaning.specs.Grammar.{Tree, Prog, grammar};
-ghost use Rattle.front_end.specs.Front.{AreTokens, AreRows, IsAnalysis, IsRefusedBy};
+ghost use Rattle.front_end.specs.Front.{AreTokens, AreRows, IsAnalysis, IsRefused};
 
 use crate::phases::{lexed, named, parsed, shaped, typed};
 use crate::refusal::Refusal;
@@ -41,7 +41,7 @@ fn tree(
     requires reduced { IsReduced grammar }
     requires lexed { AreTokens source.now tokens.now }
     ensures ok { IfOk result (λ v. (t : Tree Prog) × AreRows source.now v t) }
-    ensures refused { IfErr result (IsRefusedBy source.now) }
+    ensures refused { IfErr result (IsRefused source.now) }
 {
     let productions = parsed(crew, tables, source, tokens)?;
     shaped(crew, source, tokens, &productions)
@@ -52,7 +52,7 @@ fn meant(crew: &impl Passes, source: &[u8], tokens: Tokens, rows: Rows) -> Resul
     requires lexed { AreTokens source.now tokens }
     requires shaped { (t : Tree Prog) × AreRows source.now rows t }
     ensures ok { IfOk result (λ f. (t : Tree Prog) × IsAnalysis source.now t f) }
-    ensures refused { IfErr result (IsRefusedBy source.now) }
+    ensures refused { IfErr result (IsRefused source.now) }
 {
     rows_are_few();
     let names = named(crew, source, &tokens, &rows)?;
@@ -69,7 +69,7 @@ fn meant(crew: &impl Passes, source: &[u8], tokens: Tokens, rows: Rows) -> Resul
 fn tables_beside_tokens<C: Passes>(crew: &C, source: &[u8]) -> Result<(Tables, Tokens), Refusal>
     requires fits { length source.now ≤ most_source }
     ensures ok { IfOk result (λ b. AreTablesOf grammar b.0 × IsReduced grammar × AreTokens source.now b.1) }
-    ensures refused { IfErr result (IsRefusedBy source.now) }
+    ensures refused { IfErr result (IsRefused source.now) }
 {
     let alloc = crew.alloc();
     let (tables, tokens) = join(
@@ -80,7 +80,7 @@ fn tables_beside_tokens<C: Passes>(crew: &C, source: &[u8]) -> Result<(Tables, T
         move || -> Result<Tokens, Refusal>
             requires { length source.now ≤ most_source }
             ensures ok { IfOk result (λ t. AreTokens source.entry.now t) }
-            ensures refused { IfErr result (IsRefusedBy source.entry.now) }
+            ensures refused { IfErr result (IsRefused source.entry.now) }
         { lexed(crew, source) },
     );
     Ok((tables?, tokens?))
@@ -90,7 +90,7 @@ fn tables_beside_tokens<C: Passes>(crew: &C, source: &[u8]) -> Result<(Tables, T
 fn tables_and_tokens<C: Passes>(crew: &C, source: &[u8]) -> Result<(Tables, Tokens), Refusal>
     requires fits { length source.now ≤ most_source }
     ensures ok { IfOk result (λ b. AreTablesOf grammar b.0 × IsReduced grammar × AreTokens source.now b.1) }
-    ensures refused { IfErr result (IsRefusedBy source.now) }
+    ensures refused { IfErr result (IsRefused source.now) }
 {
     if crew.plan().workers > 1 {
         return tables_beside_tokens(crew, source);
@@ -104,7 +104,7 @@ fn tables_and_tokens<C: Passes>(crew: &C, source: &[u8]) -> Result<(Tables, Toke
 fn parts(crew: &impl Passes, source: &[u8]) -> Result<Analysis, Refusal>
     requires fits { length source.now ≤ most_source }
     ensures ok { IfOk result (λ f. (t : Tree Prog) × IsAnalysis source.now t f) }
-    ensures refused { IfErr result (IsRefusedBy source.now) }
+    ensures refused { IfErr result (IsRefused source.now) }
 {
     let (tables, tokens) = tables_and_tokens(crew, source)?;
     let rows = tree(crew, &tables, source, &tokens)?;
@@ -115,7 +115,7 @@ fn parts(crew: &impl Passes, source: &[u8]) -> Result<Analysis, Refusal>
 /// one, or the limit of a source's bytes. They are the same for every plan and gate. The only other refusal is that memory is out.
 pub fn front(crew: &impl Passes, source: &[u8]) -> Result<Analysis, Refusal>
     ensures ok { IfOk result (λ f. (t : Tree Prog) × IsAnalysis source.now t f) }
-    ensures refused { IfErr result (IsRefusedBy source.now) }
+    ensures refused { IfErr result (IsRefused source.now) }
 {
     if source.len() > MOST_SOURCE {
         return Err(Refusal::Limit {

@@ -8,7 +8,7 @@ ghost use Rattle.source_meaning.specs.Typing.{type_faults, types};
 ghost use Rattle.grammar_file.specs.Spelling.{IsReduced};
 ghost use Rattle.llp_tables.specs.EntryTable.{AreTablesOf};
 ghost use Rattle.tree_passes.specs.TreeColumns.{IsParseOf};
-ghost use Rattle.front_end.specs.Front.{AreNamesOf, AreTokens, AreRows, IsRefusedBy};
+ghost use Rattle.front_end.specs.Front.{AreNamesOf, AreTokens, AreRows, IsRefused};
 
 use crate::places::place;
 use crate::refusal::Refusal;
@@ -30,7 +30,7 @@ use type_pass::check;
 pub fn lexed(crew: &impl Passes, source: &[u8]) -> Result<Tokens, Refusal>
     requires fits { length source.now ≤ most_source }
     ensures ok { IfOk result (λ t. AreTokens source.now t) }
-    ensures refused { IfErr result (IsRefusedBy source.now) }
+    ensures refused { IfErr result (IsRefused source.now) }
 {
     match lex(crew, source) {
         Ok(tokens) => Ok(tokens),
@@ -51,7 +51,7 @@ pub fn parsed(
     requires reduced { IsReduced grammar }
     requires lexed { AreTokens source.now tokens.now }
     ensures ok { IfOk result (λ ps. (t : Tree Prog) × IsParseOf source.now ps.items t) }
-    ensures refused { IfErr result (IsRefusedBy source.now) }
+    ensures refused { IfErr result (IsRefused source.now) }
 {
     derivations_have_trees();
     grammar_is_spelled();
@@ -78,7 +78,7 @@ pub fn shaped(
     requires lexed { AreTokens source.now tokens.now }
     requires parsed { (t : Tree Prog) × IsParseOf source.now productions.now t }
     ensures ok { IfOk result (λ v. (t : Tree Prog) × AreRows source.now v t) }
-    ensures refused { IfErr result (IsRefusedBy source.now) }
+    ensures refused { IfErr result (IsRefused source.now) }
 {
     match rows(crew, source, tokens, productions) {
         Ok(rows) => Ok(rows),
@@ -103,7 +103,7 @@ pub fn named(
     ensures lens { IfOk result (λ n. (length n.meant ≡ length rows.now) × (length n.numbers ≡ length rows.now)) }
     ensures scoped { IfOk result (λ n. (t : Tree Prog) → AreRows source.now rows.now t → scope_faults (length (tokens_of source.now)) (ast t) ≡ []) }
     ensures names { IfOk result (λ n. (t : Tree Prog) → AreRows source.now rows.now t → AreNamesOf n (ast t)) }
-    ensures refused { (t : Tree Prog) → AreRows source.now rows.now t → IfErr result (IsRefusedBy source.now) }
+    ensures refused { (t : Tree Prog) → AreRows source.now rows.now t → IfErr result (IsRefused source.now) }
 {
     programs_are_formed();
     match resolve(crew, source, tokens, rows) {
@@ -130,7 +130,7 @@ pub fn typed(
     ensures typed { IfOk result (λ v. (t : Tree Prog) → AreRows source.now rows.now t → AreNamesOf names.now (ast t) → type_faults (ast t) ≡ []) }
     ensures types { IfOk result (λ v. (t : Tree Prog) → AreRows source.now rows.now t → AreNamesOf names.now (ast t) → v ≡ types (ast t)) }
     ensures refused { (t : Tree Prog) → AreRows source.now rows.now t → scope_faults (length (tokens_of source.now)) (ast t) ≡ [] → AreNamesOf names.now (ast t)
-        → IfErr result (IsRefusedBy source.now) }
+        → IfErr result (IsRefused source.now) }
 {
     match check(crew, rows, names) {
         Ok(types) => Ok(types),

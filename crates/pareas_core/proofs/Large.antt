@@ -1,5 +1,5 @@
 -- The first frame that is too large, and frames where there is none.
-use Rattle.std.proofs.Common.{◌≡◌, ℕ, zero, suc, ◌<◌, ◌≤◌, Bool, true, false, List, [], ◌∷◌, length, Option, Some, None, nat_lt, if◌then◌else◌, refl, sym, ap, subst, arith}
+use Rattle.std.proofs.Common.{◌≡◌, ℕ, zero, suc, ◌<◌, ◌≤◌, Bool, true, false, List, [], ◌∷◌, length, Option, Some, None, nat_lt, if◌then◌else◌, refl, ap, arith}
 use Rattle.std.specs.Prelude.{option_map}
 use Rattle.std.specs.List.{find}
 use Rattle.std.proofs.lemmas.Bool.Decides.{nat_tests}
@@ -8,14 +8,12 @@ use Rattle.source_meaning.specs.Ast.{Function, Program}
 use Rattle.source_meaning.specs.Frames.{Frame, frame}
 use Rattle.source_meaning.specs.Grammar.{Tree, Prog, ast}
 use Rattle.source_meaning.specs.Lexemes.{tokens}
-use Rattle.source_meaning.specs.Rows.{Row, post}
+use Rattle.source_meaning.specs.Rows.{Row}
 use Rattle.ast_rows.specs.NameRows.{NameRows}
-use Rattle.row_rules.specs.Steps.{kind_at}
-use Rattle.code_rules.specs.Reach.{IsSmall}
 use Rattle.code_rules.specs.RowTables.{frame_in}
-use Rattle.front_end.specs.declared.analysis.Analysis.{Analysis}
 use Rattle.rv_emit.specs.Compilable.{IsCompilable}
-use Rattle.pareas_core.specs.Coded.{AreFrames, AreLeft}
+use Rattle.verdict.specs.Verdict.{folded_if}
+use Rattle.pareas_core.specs.Coded.{IsClean, IsCoded}
 
 abbrev large : Function → Bool
 large f = nat_lt most_frame (frame f).bytes
@@ -31,6 +29,10 @@ one_found (Some f) at bytes e = (f, refl, ap (λ o. (from_some o).0) e, ap (λ o
     from_some None = (0, 0)
     from_some (Some p) = p
 
+pub none_found : (o : Option Function) → option_map told o ≡ None → o ≡ None
+none_found None e = refl
+none_found (Some f) e = absurd (cc)
+
 first_not : (f : Function) (fs : Program) → find large (f ∷ fs) ≡ None → (large f ≡ false) × (find large fs ≡ None)
 first_not f fs e = go (large f) e
   where
@@ -43,24 +45,18 @@ frames_small [] e j h = absurd (omega arith)
 frames_small (f ∷ fs) e zero h = let b = (first_not f fs e).0 in grind (arith, nat_tests)
 frames_small (f ∷ fs) e (suc j) h = frames_small fs (first_not f fs e).1 j (omega arith)
 
--- the program of an analysis, with its depths and frames, has code
-pub compilable : (text : List ℕ) (a : Analysis) (deep : List ℕ) (frames : List Frame) (t : Tree Prog) → AreFrames text a deep frames t → ((k : ℕ) → k < length (post (ast t)) → IsSmall (kind_at (ast t) k)) → IsCompilable (ast t) a.rows a.names deep frames
-compilable text a deep frames t f small = record {
-  rows_are = f.analyzed.rows_are;
-  shaped = f.analyzed.checked.shaped;
-  named = record { names = f.analyzed.names_are; end = length (tokens text); faultless = f.analyzed.checked.scoped };
-  meant_many = f.analyzed.meant_many;
-  numbers_many = f.analyzed.numbers_many;
-  typed = f.analyzed.checked.typed;
-  small = small;
-  framed = frames_small (ast t) f.none_large;
-  depths_are = f.depths_are;
-  frames_are = f.frames_are;
+-- the program of a source, with its depths and frames, has code
+pub compilable : (fold : Bool) (text : List ℕ) (t : Tree Prog) (rows : List Row) (names : NameRows) (deep : List ℕ) (frames : List Frame) → IsCoded fold text t rows names deep frames → IsClean (length (tokens text)) (folded_if fold (ast t))
+    → IsCompilable (folded_if fold (ast t)) rows names deep frames
+compilable fold text t rows names deep frames c clean = record {
+  rows_are = c.are.rows_are;
+  shaped = clean.shaped;
+  named = record { names = c.are.names_are; end = length (tokens text); faultless = clean.scoped };
+  meant_many = c.are.meant_many;
+  numbers_many = c.are.numbers_many;
+  typed = clean.typed;
+  small = clean.small;
+  framed = frames_small (folded_if fold (ast t)) c.framed.none_large;
+  depths_are = c.depths_are;
+  frames_are = c.framed.frames_are;
 }
-
-pub compilable_left : (text : List ℕ) (rows : List Row) (names : NameRows) (deep : List ℕ) (frames : List Frame) (t : Tree Prog) (left : AreLeft text rows names deep frames t) → ((k : ℕ) → k < length (post (ast t)) → IsSmall (kind_at (ast t) k))
-    → IsCompilable (ast t) rows names deep frames
-compilable_left text rows names deep frames t left small =
-    let a = left.0 in
-    subst (λ (rs : List Row). IsCompilable (ast t) rs names deep frames) (sym left.2)
-    (subst (λ (ns : NameRows). IsCompilable (ast t) a.rows ns deep frames) (sym left.3) (compilable text a deep frames t left.1 small))

@@ -1,5 +1,5 @@
 -- From what was read, answered and delivered to what the program's contract says.
-use Rattle.std.proofs.Common.{◌≡◌, ℕ, zero, suc, ◌+◌, ◌<◌, ◌≤◌, ◌⊎◌, true, false, inl, inr, arith, List, [], ◌∷◌, ◌++◌, length, take, drop, Option, Some, None, Result, Ok, Err, refl, sym, ap, ◌∙◌, subst}
+use Rattle.std.proofs.Common.{◌≡◌, ℕ, zero, suc, ◌<◌, ◌≤◌, ◌⊎◌, Bool, true, false, inl, inr, arith, List, [], ◌∷◌, ◌++◌, length, take, drop, Option, Some, None, Result, Ok, Err, refl, sym, ap, ◌∙◌, subst}
 use Rattle.std.proofs.lemmas.List.{append-nil}
 use Rattle.std.specs.Io.KnownBytes.{Appends}
 use Rattle.drill_source.specs.Drill.{drill_text}
@@ -23,19 +23,19 @@ use Rattle.table_text.specs.Answers.{IsTableAnswer}
 use Rattle.table_text.specs.declared.answer.TableAnswer.{TableAnswer}
 use Rattle.table_text.specs.declared.answer.TableAnswer.TheVariants as answers
 use Rattle.pareas_core.specs.Output.{Due, done, due_of_verdict, due_of_machine, due_of_dump, due_of_asm, due_of_drill, drill_lines, drill_steps, due_of_table, status_of, IsDue, built, ran, emulated, listed, assembled, tabled, drilled}
-use Rattle.pareas_core.specs.Reading.{ReadsUpTo, WritesPrefix}
-use Rattle.pareas_core.specs.Headline.{CompilesTo, RunsAs, Runs, what_was_read, what_was_made, HasRun, reads, most_bytes, read_by, End, HasFailed, HasWorked, GotPrefix, IsWritten, IsAnswer, MeetsWords}
+use Rattle.pareas_core.specs.Reading.{WritesPrefix}
+use Rattle.pareas_core.specs.Headline.{CompilesTo, RunsAs, Runs, what_was_read, what_was_made, HasRun, reads, read_by, End, HasFailed, HasWorked, GotPrefix, IsWritten, IsAnswer, MeetsWords}
 use Rattle.pareas_core.specs.Responses.{HasRead, IsToldOf, IsResponse, IsDelivered, whole, broken_off}
 
 -- ---- what is due
 
-abbrev pub OneVerdict : List ℕ → Type 0
-OneVerdict text = (v w : Verdict) → IsVerdict text v → IsVerdict text w → v ≡ w
+abbrev pub OneVerdict : Bool → List ℕ → Type 0
+OneVerdict fold text = (v w : Verdict) → IsVerdict fold text v → IsVerdict fold text w → v ≡ w
 
 -- what is due for a command is what the verdict on a text says
-pub record IsByVerdict (c : Command) (bytes text : List ℕ) (f : Program → Due) : Type 0 where
-  pub due : (v : Verdict) → IsVerdict text v → IsDue c bytes (due_of_verdict f text v)
-  pub only : (e : Due) → IsDue c bytes e → (v : Verdict) × IsVerdict text v × (e ≡ due_of_verdict f text v)
+pub record IsByVerdict (c : Command) (fold : Bool) (bytes text : List ℕ) (f : Program → Due) : Type 0 where
+  pub due : (v : Verdict) → IsVerdict fold text v → IsDue c bytes (due_of_verdict f text v)
+  pub only : (e : Due) → IsDue c bytes e → (v : Verdict) × IsVerdict fold text v × (e ≡ due_of_verdict f text v)
 
 -- an image that is written, and one that runs behind some lines
 abbrev pub written : Program → Due
@@ -47,29 +47,29 @@ running before steps p = due_of_machine (before (image p)) (machine (image p) st
 abbrev pub no_lines : List ℕ → List ℕ
 no_lines file = []
 
-build_only : (bytes : List ℕ) (e : Due) → IsDue Build bytes e → (v : Verdict) × IsVerdict bytes v × (e ≡ due_of_verdict written bytes v)
-build_only bytes _ (built {v = v} is) = (v, is, refl)
+build_only : (fold : Bool) (bytes : List ℕ) (e : Due) → IsDue (Build fold) bytes e → (v : Verdict) × IsVerdict fold bytes v × (e ≡ due_of_verdict written bytes v)
+build_only fold bytes _ (built {v = v} is) = (v, is, refl)
 
-run_only : (steps : ℕ) (bytes : List ℕ) (e : Due) → IsDue (Run steps) bytes e → (v : Verdict) × IsVerdict bytes v × (e ≡ due_of_verdict (running no_lines steps) bytes v)
-run_only steps bytes _ (ran {v = v} is) = (v, is, refl)
+run_only : (steps : ℕ) (fold : Bool) (bytes : List ℕ) (e : Due) → IsDue (Run steps fold) bytes e → (v : Verdict) × IsVerdict fold bytes v × (e ≡ due_of_verdict (running no_lines steps) bytes v)
+run_only steps fold bytes _ (ran {v = v} is) = (v, is, refl)
 
 drill_only : (seed functions : ℕ) (bytes : List ℕ) (e : Due) → IsDue (Drill seed functions) bytes e
-    → (v : Verdict) × IsVerdict (drill_text seed functions) v × (e ≡ due_of_verdict (running (drill_lines (drill_text seed functions)) drill_steps) (drill_text seed functions) v)
+    → (v : Verdict) × IsVerdict false (drill_text seed functions) v × (e ≡ due_of_verdict (running (drill_lines (drill_text seed functions)) drill_steps) (drill_text seed functions) v)
 drill_only seed functions bytes _ (drilled {v = v} is) = (v, is, refl)
 
-pub by_build : (bytes : List ℕ) → IsByVerdict Build bytes bytes written
-by_build bytes = record { due = λ v is. built is; only = build_only bytes }
+pub by_build : (fold : Bool) (bytes : List ℕ) → IsByVerdict (Build fold) fold bytes bytes written
+by_build fold bytes = record { due = λ v is. built is; only = build_only fold bytes }
 
-pub by_run : (steps : ℕ) (bytes : List ℕ) → IsByVerdict (Run steps) bytes bytes (running no_lines steps)
-by_run steps bytes = record { due = λ v is. ran is; only = run_only steps bytes }
+pub by_run : (steps : ℕ) (fold : Bool) (bytes : List ℕ) → IsByVerdict (Run steps fold) fold bytes bytes (running no_lines steps)
+by_run steps fold bytes = record { due = λ v is. ran is; only = run_only steps fold bytes }
 
 pub by_drill : (seed functions : ℕ) (bytes : List ℕ)
-    → IsByVerdict (Drill seed functions) bytes (drill_text seed functions) (running (drill_lines (drill_text seed functions)) drill_steps)
+    → IsByVerdict (Drill seed functions) false bytes (drill_text seed functions) (running (drill_lines (drill_text seed functions)) drill_steps)
 by_drill seed functions bytes = record { due = λ v is. drilled is; only = drill_only seed functions bytes }
 
-module _ (c : Command) (bytes text : List ℕ) (f : Program → Due) (by : IsByVerdict c bytes text f) (one : OneVerdict text) where
+module _ (c : Command) (fold : Bool) (bytes text : List ℕ) (f : Program → Due) (by : IsByVerdict c fold bytes text f) (one : OneVerdict fold text) where
   -- nothing else is due
-  no_other : (v : Verdict) (d : Due) → IsVerdict text v → d ≡ due_of_verdict f text v → (e : Due) → IsDue c bytes e → e ≡ d
+  no_other : (v : Verdict) (d : Due) → IsVerdict fold text v → d ≡ due_of_verdict f text v → (e : Due) → IsDue c bytes e → e ≡ d
   no_other v d is same e h = let o = by.only e h in o.2 ∙ ap (due_of_verdict f text) (one o.0 v o.1 is) ∙ sym same
 
   not_refused : (d : Due) → d.status ≡ statuses.Refused → (d.status ≡ statuses.Done) ⊎ HasRun d.status → ⊥
@@ -84,45 +84,49 @@ module _ (c : Command) (bytes text : List ℕ) (f : Program → Due) (by : IsByV
   not_limited d e (inr (inr (inl a))) = cc
   not_limited d e (inr (inr (inr a))) = cc
 
-  told : (v : Verdict) (d : Due) → IsVerdict text v → d ≡ due_of_verdict f text v → ((d.status ≡ statuses.Done) ⊎ HasRun d.status → ⊥) → IsResponse c bytes d
+  told : (v : Verdict) (d : Due) → IsVerdict fold text v → d ≡ due_of_verdict f text v → ((d.status ≡ statuses.Done) ⊎ HasRun d.status → ⊥) → IsResponse c bytes d
   told v d is same neither = record {
     due = subst (IsDue c bytes) (sym same) (by.due v is);
     only = no_other v d is same;
-    built = λ build is_done. absurd (neither (inl is_done));
-    ran = λ source steps runs h. absurd (neither (inr h));
+    built = λ wanted build is_done. absurd (neither (inl is_done));
+    ran = λ wanted source steps runs h. absurd (neither (inr h));
   }
 
   -- a source with a diagnostic, or with a limit that it passes
-  pub refused : (r : Refusal) (d : Due) → IsRefusedBy text r → IsToldOf text r d → IsResponse c bytes d
+  pub refused : (r : Refusal) (d : Due) → IsRefusedBy fold text r → IsToldOf text r d → IsResponse c bytes d
   refused (Diagnostic code at) d is line = told (Diagnosed code at) d is line (not_refused d (ap (λ (d : Due). d.status) line))
   refused (Limit code at size) d is line = told (Limited code at size) d is line (not_limited d (ap (λ (d : Due). d.status) line))
   refused NoMemory d is line = absurd line
 
-no_build_run : (bytes source : List ℕ) (steps : ℕ) → Runs Build bytes source steps → ⊥
-no_build_run bytes source steps r = elim r [ ]
+no_build_run : (fold wanted : Bool) (bytes source : List ℕ) (steps : ℕ) → Runs (Build fold) bytes wanted source steps → ⊥
+no_build_run fold wanted bytes source steps r = elim r [ ]
 
-no_emu_run : (most : ℕ) (bytes source : List ℕ) (steps : ℕ) → Runs (Emu most) bytes source steps → ⊥
-no_emu_run most bytes source steps r = elim r [ ]
+no_emu_run : (most : ℕ) (wanted : Bool) (bytes source : List ℕ) (steps : ℕ) → Runs (Emu most) bytes wanted source steps → ⊥
+no_emu_run most wanted bytes source steps r = elim r [ ]
 
-no_dump_run : (bytes source : List ℕ) (steps : ℕ) → Runs Dump bytes source steps → ⊥
-no_dump_run bytes source steps r = elim r [ ]
+no_dump_run : (wanted : Bool) (bytes source : List ℕ) (steps : ℕ) → Runs Dump bytes wanted source steps → ⊥
+no_dump_run wanted bytes source steps r = elim r [ ]
 
-no_asm_run : (bytes source : List ℕ) (steps : ℕ) → Runs Asm bytes source steps → ⊥
-no_asm_run bytes source steps r = elim r [ ]
+no_asm_run : (wanted : Bool) (bytes source : List ℕ) (steps : ℕ) → Runs Asm bytes wanted source steps → ⊥
+no_asm_run wanted bytes source steps r = elim r [ ]
 
-no_table_run : (word : Option (List ℕ)) (bytes source : List ℕ) (steps : ℕ) → Runs (Table word) bytes source steps → ⊥
-no_table_run word bytes source steps r = elim r [ ]
+no_table_run : (word : Option (List ℕ)) (wanted : Bool) (bytes source : List ℕ) (steps : ℕ) → Runs (Table word) bytes wanted source steps → ⊥
+no_table_run word wanted bytes source steps r = elim r [ ]
 
 -- an image that was built
-pub compiled : (bytes out notes : List ℕ) → CompilesTo bytes out → OneVerdict bytes → notes ≡ []
-    → IsResponse Build bytes (record { status = statuses.Done; out = out; notes = notes })
-compiled bytes out notes k one none =
+-- a build folds or doesn't, as its word says
+same_build : (fold wanted : Bool) → Build fold ≡ Build wanted → fold ≡ wanted
+same_build fold wanted e = cc
+
+pub compiled : (fold : Bool) (bytes out notes : List ℕ) → CompilesTo fold bytes out → OneVerdict fold bytes → notes ≡ []
+    → IsResponse (Build fold) bytes (record { status = statuses.Done; out = out; notes = notes })
+compiled fold bytes out notes k one none =
     let same : done (image k.program) ≡ record { status = statuses.Done; out = out; notes = notes } = λ i. record { status = statuses.Done; out = sym k.is_image i; notes = sym none i } in
     record {
-      due = subst (IsDue Build bytes) same (built k.accepted);
-      only = no_other Build bytes bytes written (by_build bytes) one (Accepted k.program) _ k.accepted (sym same);
-      built = λ build is_done. k;
-      ran = λ source steps runs h. absurd (no_build_run bytes source steps runs);
+      due = subst (IsDue (Build fold) bytes) same (built k.accepted);
+      only = no_other (Build fold) fold bytes bytes written (by_build fold bytes) one (Accepted k.program) _ k.accepted (sym same);
+      built = λ wanted build is_done. subst (λ w. CompilesTo w bytes out) (same_build fold wanted build) k;
+      ran = λ wanted source steps runs h. absurd (no_build_run fold wanted bytes source steps runs);
     }
 
 -- where the machine's status is a fault, the machine is faulty
@@ -144,55 +148,55 @@ overrun : (layout : Layout) (p : Program) (file : List ℕ) (m : ℕ) → Behave
 overrun layout p file m behaves (printed, faulty) = (printed, (behaves.overruns_only m printed faulty).0)
 
 -- a command runs the program of this text alone, and for so many steps
-abbrev pub RunsOnly : Command → List ℕ → List ℕ → ℕ → Type 0
-RunsOnly c bytes text steps = (source : List ℕ) (n : ℕ) → Runs c bytes source n → (source ≡ text) × (n ≡ steps)
+abbrev pub RunsOnly : Command → List ℕ → Bool → List ℕ → ℕ → Type 0
+RunsOnly c bytes fold text steps = (wanted : Bool) (source : List ℕ) (n : ℕ) → Runs c bytes wanted source n → (wanted ≡ fold) × (source ≡ text) × (n ≡ steps)
 
-pub run_runs : (steps : ℕ) (bytes : List ℕ) → RunsOnly (Run steps) bytes bytes steps
-run_runs steps bytes _ _ what_was_read = (refl, refl)
+pub run_runs : (steps : ℕ) (fold : Bool) (bytes : List ℕ) → RunsOnly (Run steps fold) bytes fold bytes steps
+run_runs steps fold bytes _ _ _ what_was_read = (refl, refl, refl)
 
-pub drill_runs : (seed functions : ℕ) (bytes : List ℕ) → RunsOnly (Drill seed functions) bytes (drill_text seed functions) drill_steps
-drill_runs seed functions bytes _ _ what_was_made = (refl, refl)
+pub drill_runs : (seed functions : ℕ) (bytes : List ℕ) → RunsOnly (Drill seed functions) bytes false (drill_text seed functions) drill_steps
+drill_runs seed functions bytes _ _ _ what_was_made = (refl, refl, refl)
 
 -- the run of an image
-module _ (c : Command) (bytes text : List ℕ) (before : List ℕ → List ℕ) (steps : ℕ) (by : IsByVerdict c bytes text (running before steps))
-    (runs_only : RunsOnly c bytes text steps) (no_build : c ≡ Build → ⊥) (one : OneVerdict text) where
-  pub run_through : (file : List ℕ) (d : Due) → CompilesTo text file → d ≡ due_of_machine (before file) (machine file steps) → IsResponse c bytes d
+module _ (c : Command) (fold : Bool) (bytes text : List ℕ) (before : List ℕ → List ℕ) (steps : ℕ) (by : IsByVerdict c fold bytes text (running before steps))
+    (runs_only : RunsOnly c bytes fold text steps) (no_build : (wanted : Bool) → c ≡ Build wanted → ⊥) (one : OneVerdict fold text) where
+  pub run_through : (file : List ℕ) (d : Due) → CompilesTo fold text file → d ≡ due_of_machine (before file) (machine file steps) → IsResponse c bytes d
   run_through file d k is =
       let same : running before steps k.program ≡ d = ap (λ f. due_of_machine (before f) (machine f steps)) (sym k.is_image) ∙ sym is in
       let layout = layout_of k.program in
       let behaves : Behaves layout k.program (image k.program) = subst (Behaves layout k.program) k.is_image k.behaves in
       record {
         due = subst (IsDue c bytes) same (by.due (Accepted k.program) k.accepted);
-        only = no_other c bytes text (running before steps) by one (Accepted k.program) d k.accepted (sym same);
-        built = λ build is_done. absurd (no_build build);
-        ran = λ source n runs h.
-            let it = runs_only source n runs in
-            subst (λ s. RunsAs s n d.status) (sym it.0) (record {
+        only = no_other c fold bytes text (running before steps) by one (Accepted k.program) d k.accepted (sym same);
+        built = λ wanted build is_done. absurd (no_build wanted build);
+        ran = λ wanted source n runs h.
+            let it = runs_only wanted source n runs in
+            subst (λ w. RunsAs w source n d.status) (sym it.0) (subst (λ s. RunsAs fold s n d.status) (sym it.1) (record {
               program = k.program;
               accepted = k.accepted;
               behaves = behaves;
-              overran = λ fault. subst (λ n. (printed : List ℕ) × Overruns layout k.program (image k.program) n printed) (sym it.1)
+              overran = λ fault. subst (λ n. (printed : List ℕ) × Overruns layout k.program (image k.program) n printed) (sym it.2)
                   (overrun layout k.program (image k.program) steps behaves
                   (faulty (before (image k.program)) (image k.program) steps (ap (λ (d : Due). d.status) same ∙ fault)));
-            });
+            }));
       }
 
-run_is_no_build : (steps : ℕ) → Run steps ≡ Build → ⊥
-run_is_no_build steps e = cc
+run_is_no_build : (steps : ℕ) (fold wanted : Bool) → Run steps fold ≡ Build wanted → ⊥
+run_is_no_build steps fold wanted e = cc
 
-drill_is_no_build : (seed functions : ℕ) → Drill seed functions ≡ Build → ⊥
-drill_is_no_build seed functions e = cc
+drill_is_no_build : (seed functions : ℕ) (wanted : Bool) → Drill seed functions ≡ Build wanted → ⊥
+drill_is_no_build seed functions wanted e = cc
 
-pub ran_through : (steps : ℕ) (bytes file : List ℕ) (d : Due) → CompilesTo bytes file → OneVerdict bytes → d ≡ due_of_machine [] (machine file steps)
-    → IsResponse (Run steps) bytes d
-ran_through steps bytes file d k one is =
-    run_through (Run steps) bytes bytes no_lines steps (by_run steps bytes) (run_runs steps bytes) (run_is_no_build steps) one file d k is
+pub ran_through : (steps : ℕ) (fold : Bool) (bytes file : List ℕ) (d : Due) → CompilesTo fold bytes file → OneVerdict fold bytes → d ≡ due_of_machine [] (machine file steps)
+    → IsResponse (Run steps fold) bytes d
+ran_through steps fold bytes file d k one is =
+    run_through (Run steps fold) fold bytes bytes no_lines steps (by_run steps fold bytes) (run_runs steps fold bytes) (run_is_no_build steps fold) one file d k is
 
-pub drilled_through : (seed functions : ℕ) (bytes file : List ℕ) (d : Due) → CompilesTo (drill_text seed functions) file → OneVerdict (drill_text seed functions)
+pub drilled_through : (seed functions : ℕ) (bytes file : List ℕ) (d : Due) → CompilesTo false (drill_text seed functions) file → OneVerdict false (drill_text seed functions)
     → d ≡ due_of_drill (drill_text seed functions) file → IsResponse (Drill seed functions) bytes d
 drilled_through seed functions bytes file d k one is =
     let text = drill_text seed functions in
-    run_through (Drill seed functions) bytes text (drill_lines text) drill_steps (by_drill seed functions bytes) (drill_runs seed functions bytes)
+    run_through (Drill seed functions) false bytes text (drill_lines text) drill_steps (by_drill seed functions bytes) (drill_runs seed functions bytes)
     (drill_is_no_build seed functions) one file d k is
 
 -- the run of a file
@@ -203,8 +207,8 @@ pub emulates : (steps : ℕ) (bytes : List ℕ) (d : Due) → d ≡ due_of_machi
 emulates steps bytes d is = record {
   due = subst (IsDue (Emu steps) bytes) (sym is) emulated;
   only = λ e h. emulated_due steps bytes e h ∙ sym is;
-  built = λ build is_done. let e : Emu steps ≡ Build = build in cc;
-  ran = λ source n runs h. absurd (no_emu_run steps bytes source n runs);
+  built = λ wanted build is_done. let e : Emu steps ≡ Build wanted = build in cc;
+  ran = λ wanted source n runs h. absurd (no_emu_run steps wanted bytes source n runs);
 }
 
 -- ---- listings
@@ -216,8 +220,8 @@ pub dumps : (bytes : List ℕ) (d : Due) → d ≡ due_of_dump (dumped bytes) �
 dumps bytes d is = record {
   due = subst (IsDue Dump bytes) (sym is) listed;
   only = λ e h. dump_due bytes e h ∙ sym is;
-  built = λ build is_done. let e : Dump ≡ Build = build in cc;
-  ran = λ source n runs h. absurd (no_dump_run bytes source n runs);
+  built = λ wanted build is_done. let e : Dump ≡ Build wanted = build in cc;
+  ran = λ wanted source n runs h. absurd (no_dump_run wanted bytes source n runs);
 }
 
 asm_due : (bytes : List ℕ) (e : Due) → IsDue Asm bytes e → e ≡ due_of_asm (file_of_text bytes)
@@ -227,16 +231,16 @@ pub assembles : (bytes : List ℕ) (d : Due) → d ≡ due_of_asm (file_of_text 
 assembles bytes d is = record {
   due = subst (IsDue Asm bytes) (sym is) assembled;
   only = λ e h. asm_due bytes e h ∙ sym is;
-  built = λ build is_done. let e : Asm ≡ Build = build in cc;
-  ran = λ source n runs h. absurd (no_asm_run bytes source n runs);
+  built = λ wanted build is_done. let e : Asm ≡ Build wanted = build in cc;
+  ran = λ wanted source n runs h. absurd (no_asm_run wanted bytes source n runs);
 }
 
 -- the listing of an image gives the image again, by the laws of listings and of accepted sources
 pub listed_and_assembled : ((ws : List ℕ) → 0 < length ws → length ws ≤ 4194304 → (text : List ℕ) × (dumped (elf ws) ≡ Ok text) × (file_of_text text ≡ Ok (elf ws)))
-    → ((text : List ℕ) (p : Program) → IsVerdict text (Accepted p) → (0 < length (words p)) × (length (words p) ≤ most_long))
-    → (source file : List ℕ) → CompilesTo source file → (text : List ℕ) × IsDue Dump file (done text) × IsDue Asm text (done file)
-listed_and_assembled again fits source file k =
-    let few = fits source k.program k.accepted in
+    → ((fold : Bool) (text : List ℕ) (p : Program) → IsVerdict fold text (Accepted p) → (0 < length (words p)) × (length (words p) ≤ most_long))
+    → (fold : Bool) (source file : List ℕ) → CompilesTo fold source file → (text : List ℕ) × IsDue Dump file (done text) × IsDue Asm text (done file)
+listed_and_assembled again fits fold source file k =
+    let few = fits fold source k.program k.accepted in
     let it = again (words k.program) few.0 (omega (arith, few.1)) in
     let tells : dumped file ≡ Ok it.0 = ap dumped k.is_image ∙ it.1 in
     let gives : file_of_text it.0 ≡ Ok file = it.2 ∙ ap Ok (sym k.is_image) in
@@ -253,8 +257,8 @@ pub tables : (word : Option (List ℕ)) (bytes : List ℕ) (answer : TableAnswer
 tables word bytes answer d one is same = record {
   due = subst (IsDue (Table word) bytes) (sym same) (tabled is);
   only = λ e h. let other = table_due word bytes e h in other.2 ∙ ap due_of_table (one other.0 answer other.1 is) ∙ sym same;
-  built = λ build is_done. let e : Table word ≡ Build = build in cc;
-  ran = λ source n runs h. absurd (no_table_run word bytes source n runs);
+  built = λ wanted build is_done. let e : Table word ≡ Build wanted = build in cc;
+  ran = λ wanted source n runs h. absurd (no_table_run word wanted bytes source n runs);
 }
 
 -- ---- what the outputs got
@@ -378,8 +382,8 @@ module _ (words : Option Command) (c : Command) (is_command : words ≡ Some c) 
         read = subst (λ k. input.after ≡ Some (drop (length (read_by k all)) all)) r.0 (read all is_all).1;
         due = (d, subst (λ k. IsDue k (read_by e all) d) r.0 (subst (λ l. IsDue c l d) r.1 response.due), w);
         only = λ f h. subst (IsWritten d.status out notes) (only_due e all is_e is_all f h) w;
-        built = λ build is_done. (d.out, subst (λ l. CompilesTo l d.out) r.1 (response.built (r.0 ∙ build) is_done), w.is_out);
-        ran = λ source steps runs h. response.ran source steps (subst (λ k. Runs k bytes source steps) (sym r.0) (subst (λ l. Runs e l source steps) (sym r.1) runs)) h;
+        built = λ fold build is_done. (d.out, subst (λ l. CompilesTo fold l d.out) r.1 (response.built fold (r.0 ∙ build) is_done), w.is_out);
+        ran = λ fold source steps runs h. response.ran fold source steps (subst (λ k. Runs k bytes fold source steps) (sym r.0) (subst (λ l. Runs e l fold source steps) (sym r.1) runs)) h;
       }
 
   met_whole : IsWritten d.status out notes d → out.faults_after ≡ out.faults_before → notes.faults_after ≡ notes.faults_before → MeetsWords words input out notes d.status

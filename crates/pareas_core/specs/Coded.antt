@@ -1,21 +1,42 @@
 -- What the code of a source is made of.
-use Rattle.std.specs.Prelude.{◌≡◌, ℕ, List, map, None, nat_lt}
+use Rattle.std.specs.Prelude.{◌≡◌, ◌<◌, ℕ, Bool, List, [], length, map, None, nat_lt}
 use Rattle.std.specs.List.{find}
 use Rattle.limits.specs.Limits.{most_frame}
+use Rattle.source_meaning.specs.Ast.{Program}
 use Rattle.source_meaning.specs.Grammar.{Tree, Prog, ast}
 use Rattle.source_meaning.specs.Frames.{Frame, frame, depths}
-use Rattle.front_end.specs.Front.{IsAnalysis}
-use Rattle.front_end.specs.declared.analysis.Analysis.{Analysis}
-use Rattle.source_meaning.specs.Rows.{Row}
+use Rattle.source_meaning.specs.Rows.{Row, post}
+use Rattle.source_meaning.specs.Scope.{scope_faults}
+use Rattle.source_meaning.specs.Shape.{shape_faults}
+use Rattle.source_meaning.specs.Typing.{type_faults}
 use Rattle.ast_rows.specs.NameRows.{NameRows}
+use Rattle.row_rules.specs.Steps.{kind_at}
+use Rattle.code_rules.specs.Reach.{IsSmall}
+use Rattle.front_end.specs.Front.{AreNamesOf, IsChecked}
+use Rattle.verdict.specs.Verdict.{folded_if}
 
--- depths and frames of the program of an analysis, where no frame is too large
-pub record AreFrames (text : List ℕ) (a : Analysis) (deep : List ℕ) (frames : List Frame) (t : Tree Prog) : Type 0 where
-  pub analyzed : IsAnalysis text t a
-  pub depths_are : deep ≡ depths (ast t)
-  pub frames_are : frames ≡ map (λ f. frame f) (ast t)
-  pub none_large : find (λ f. nat_lt most_frame (frame f).bytes) (ast t) ≡ None
+-- a program without a fault of the phases up to types, whose numbers are words
+pub record IsClean (end : ℕ) (p : Program) : Type 0 where
+  pub shaped : shape_faults p ≡ []
+  pub scoped : scope_faults end p ≡ []
+  pub typed : type_faults p ≡ []
+  pub small : (k : ℕ) → k < length (post p) → IsSmall (kind_at p k)
 
--- the same, where of the analysis these rows and names are left
-abbrev pub AreLeft : (text : List ℕ) (rows : List Row) (names : NameRows) (deep : List ℕ) (frames : List Frame) → Tree Prog → Type 0
-AreLeft text rows names deep frames t = (a : Analysis) × AreFrames text a deep frames t × (rows ≡ a.rows) × (names ≡ a.names)
+-- the rows of a program, and what its names mean
+pub record AreRowsOf (p : Program) (rows : List Row) (names : NameRows) : Type 0 where
+  pub rows_are : rows ≡ post p
+  pub names_are : AreNamesOf names p
+  pub meant_many : length names.meant ≡ length rows
+  pub numbers_many : length names.numbers ≡ length rows
+
+-- the frames of a program, none of which is too large
+pub record AreFrames (p : Program) (frames : List Frame) : Type 0 where
+  pub frames_are : frames ≡ map (λ f. frame f) p
+  pub none_large : find (λ f. nat_lt most_frame (frame f).bytes) p ≡ None
+
+-- all that the code of a source's program is made of, with its constants folded or as they are
+pub record IsCoded (fold : Bool) (text : List ℕ) (t : Tree Prog) (rows : List Row) (names : NameRows) (deep : List ℕ) (frames : List Frame) : Type 0 where
+  pub checked : IsChecked text t
+  pub are : AreRowsOf (folded_if fold (ast t)) rows names
+  pub depths_are : deep ≡ depths (folded_if fold (ast t))
+  pub framed : AreFrames (folded_if fold (ast t)) frames

@@ -16,10 +16,11 @@ use Rattle.pareas_core.specs.Output.{Due, IsDue, drill_steps}
 
 -- ---- the compiler
 
--- The source is a program, the file is its image, and on RV32IM the image does what the program does.
-pub record CompilesTo (source file : List ℕ) : Type 0 where
+-- The source is a program, with its constants folded where that is asked for, the file is its image, and on RV32IM the image does what the
+-- program does.
+pub record CompilesTo (fold : Bool) (source file : List ℕ) : Type 0 where
   pub program : Program
-  pub accepted : IsVerdict source (Accepted program)
+  pub accepted : IsVerdict fold source (Accepted program)
   pub is_image : file ≡ image program
   pub behaves : Behaves (layout_of program) program file
 
@@ -27,9 +28,9 @@ pub record CompilesTo (source file : List ℕ) : Type 0 where
 
 -- a program's run by its image: the image behaves as the program on RV32IM, and a fault within the steps is the store
 -- of a stack that the program overruns
-pub record RunsAs (source : List ℕ) (steps : ℕ) (status : Status) : Type 0 where
+pub record RunsAs (fold : Bool) (source : List ℕ) (steps : ℕ) (status : Status) : Type 0 where
   pub program : Program
-  pub accepted : IsVerdict source (Accepted program)
+  pub accepted : IsVerdict fold source (Accepted program)
   pub behaves : Behaves (layout_of program) program (image program)
   pub overran : status ≡ statuses.Machine → (printed : List ℕ) × Overruns (layout_of program) program (image program) steps printed
 
@@ -41,10 +42,11 @@ most_grammar = 65536
 abbrev pub most_listing : ℕ
 most_listing = 134217728
 
--- the program that a command runs, by its source, and for how many steps: the source is what was read, or a drill's text
-pub data Runs : Command → List ℕ → List ℕ → ℕ → Type 0 where
-  what_was_read : {steps : ℕ} {bytes : List ℕ} → Runs (Run steps) bytes bytes steps
-  what_was_made : {seed functions : ℕ} {bytes : List ℕ} → Runs (Drill seed functions) bytes (drill_text seed functions) drill_steps
+-- The program that a command runs, by whether its constants are folded and by its source, and for how many steps: the source is what was read, or a
+-- drill's text.
+pub data Runs : Command → List ℕ → Bool → List ℕ → ℕ → Type 0 where
+  what_was_read : {steps : ℕ} {fold : Bool} {bytes : List ℕ} → Runs (Run steps fold) bytes fold bytes steps
+  what_was_made : {seed functions : ℕ} {bytes : List ℕ} → Runs (Drill seed functions) bytes false (drill_text seed functions) drill_steps
 
 -- whether a command reads the input
 abbrev pub reads : Command → Bool
@@ -53,8 +55,8 @@ reads _ = true
 
 -- the most bytes that a command takes
 abbrev pub most_bytes : Command → ℕ
-most_bytes Build = most_source
-most_bytes (Run steps) = most_source
+most_bytes (Build fold) = most_source
+most_bytes (Run steps fold) = most_source
 most_bytes (Emu steps) = most_image
 most_bytes Dump = most_image
 most_bytes Asm = most_listing
@@ -105,9 +107,9 @@ pub record IsAnswer (c : Command) (bytes : List ℕ) (status : Status) (input ou
   pub due : (d : Due) × IsDue c (read_by c bytes) d × IsWritten status out notes d
   pub only : (d : Due) → IsDue c (read_by c bytes) d → IsWritten status out notes d
   -- what was built is the image of the program that the source is, and behaves as that program on RV32IM
-  pub built : c ≡ Build → status ≡ statuses.Done → (file : List ℕ) × CompilesTo (read_by c bytes) file × Got out file
+  pub built : (fold : Bool) → c ≡ Build fold → status ≡ statuses.Done → (file : List ℕ) × CompilesTo fold (read_by c bytes) file × Got out file
   -- what was run is the image of the program that the source is, or the text of a drill
-  pub ran : (source : List ℕ) (steps : ℕ) → Runs c (read_by c bytes) source steps → HasRun status → RunsAs source steps status
+  pub ran : (fold : Bool) (source : List ℕ) (steps : ℕ) → Runs c (read_by c bytes) fold source steps → HasRun status → RunsAs fold source steps status
 
 -- The answer to words that name a command, and the status of words that name none. Each status has its cause.
 pub record MeetsWords (words : Option Command) (input out notes : End) (status : Status) : Type 0 where

@@ -1,5 +1,5 @@
 -- What the program writes for a command and the bytes that it read, and its status.
-use Rattle.std.specs.Prelude.{ℕ, ◌+◌, ◌-◌, false, List, [], ◌++◌, length, take, replicate, codes, decimal, fold, count_by, ◌==◌, if◌then◌else◌, Option, Result, Ok, Err}
+use Rattle.std.specs.Prelude.{ℕ, ◌+◌, ◌-◌, Bool, false, List, [], ◌++◌, length, take, replicate, codes, decimal, fold, count_by, ◌==◌, if◌then◌else◌, Option, Result, Ok, Err}
 use Rattle.std.specs.Fmt.{signed_decimal, digits}
 use Rattle.std.specs.List.{flat_map}
 use Rattle.command_line.specs.declared.command.Command.{Command}
@@ -141,14 +141,14 @@ due_of_table (tables.Syntax place) = noted Refused (codes "syntax " ++ decimal p
 
 -- What is due for a command and the bytes that it read. Workers, chunks and gate have no part in it.
 pub data IsDue : Command → List ℕ → Due → Type 0 where
-  built : {bytes : List ℕ} {v : Verdict} → IsVerdict bytes v → IsDue Build bytes (due_of_verdict (λ p. done (image p)) bytes v)
-  ran : {steps : ℕ} {bytes : List ℕ} {v : Verdict} → IsVerdict bytes v →
-      IsDue (Run steps) bytes (due_of_verdict (λ p. due_of_machine [] (machine (image p) steps)) bytes v)
+  built : {fold : Bool} {bytes : List ℕ} {v : Verdict} → IsVerdict fold bytes v → IsDue (Build fold) bytes (due_of_verdict (λ p. done (image p)) bytes v)
+  ran : {steps : ℕ} {fold : Bool} {bytes : List ℕ} {v : Verdict} → IsVerdict fold bytes v →
+      IsDue (Run steps fold) bytes (due_of_verdict (λ p. due_of_machine [] (machine (image p) steps)) bytes v)
   emulated : {steps : ℕ} {bytes : List ℕ} → IsDue (Emu steps) bytes (due_of_machine [] (machine bytes steps))
   listed : {bytes : List ℕ} → IsDue Dump bytes (due_of_dump (dumped bytes))
   assembled : {bytes : List ℕ} → IsDue Asm bytes (due_of_asm (file_of_text bytes))
   tabled : {word : Option (List ℕ)} {bytes : List ℕ} {answer : TableAnswer} → IsTableAnswer bytes word answer → IsDue (Table word) bytes (due_of_table answer)
   -- the text of the seed is the source, and a diagnostic tells its place there
-  drilled : {seed functions : ℕ} {bytes : List ℕ} {v : Verdict} → IsVerdict (drill_text seed functions) v →
+  drilled : {seed functions : ℕ} {bytes : List ℕ} {v : Verdict} → IsVerdict false (drill_text seed functions) v →
       IsDue (Drill seed functions) bytes
       (due_of_verdict (λ p. due_of_drill (drill_text seed functions) (image p)) (drill_text seed functions) v)

@@ -1,5 +1,5 @@
 -- What the steps of the program answer, on the way to the headline: what a command reads, what is due for it, and what is written.
-use Rattle.std.specs.Prelude.{◌≡◌, ℕ, ◌⊎◌, List, ◌++◌, length, drop, Option, Some, codes}
+use Rattle.std.specs.Prelude.{◌≡◌, ℕ, ◌⊎◌, Bool, List, ◌++◌, length, drop, Option, Some, codes}
 use Rattle.pareas_core.specs.declared.status.Status.{Status}
 use Rattle.pareas_core.specs.declared.status.Status.TheVariants as statuses
 use Rattle.pareas_core.specs.Headline.{CompilesTo, RunsAs, Runs, HasRun, read_by, End, HasFailed, GotPrefix, IsWritten}
@@ -13,8 +13,8 @@ use Rattle.front_end.specs.declared.refusal.Refusal.TheVariants.{Diagnostic, Lim
 pub record IsResponse (c : Command) (bytes : List ℕ) (d : Due) : Type 0 where
   pub due : IsDue c bytes d
   pub only : (e : Due) → IsDue c bytes e → e ≡ d
-  pub built : c ≡ Build → d.status ≡ statuses.Done → CompilesTo bytes d.out
-  pub ran : (source : List ℕ) (steps : ℕ) → Runs c bytes source steps → HasRun d.status → RunsAs source steps d.status
+  pub built : (fold : Bool) → c ≡ Build fold → d.status ≡ statuses.Done → CompilesTo fold bytes d.out
+  pub ran : (fold : Bool) (source : List ℕ) (steps : ℕ) → Runs c bytes fold source steps → HasRun d.status → RunsAs fold source steps d.status
 
 -- an input that tells its bytes has lost those that the command reads
 abbrev pub HasRead : Command → Option (List ℕ) → Option (List ℕ) → List ℕ → Type 0

@@ -1,51 +1,98 @@
 //! The code of a source whose front has no diagnostic.
-ghost use Rattle.std.specs.Prelude.{◌≡◌, ◌≤◌, length, IfOk, IfErr};
-ghost use Rattle.limits.specs.Limits.{most_source, most_rows};
+ghost use Rattle.std.specs.Prelude.{◌≡◌, ◌<◌, ◌≤◌, Bool, length, IfOk, IfErr};
+ghost use Rattle.limits.specs.Limits.{most_rows};
+ghost use Rattle.source_meaning.specs.Ast.{Program as Source};
 ghost use Rattle.source_meaning.specs.Grammar.{Tree, Prog, ast};
 ghost use Rattle.source_meaning.specs.Frames.{depths as depths_of};
+ghost use Rattle.source_meaning.specs.Rows.{post};
+ghost use Rattle.folding.specs.Folding.{folded_program};
 ghost use Rattle.rv_code.specs.Code.{most_long, words as words_of};
-ghost use Rattle.front_end.specs.Front.{IsAnalysis, IsRefusedBy};
-ghost use Rattle.verdict.specs.Verdict.{Accepted, IsVerdict};
-ghost use Rattle.pareas_core.specs.Coded.{AreFrames, AreLeft};
+ghost use Rattle.front_end.specs.Front.{AreTokens, IsAnalysis, IsChecked, IsRefusedBy};
+ghost use Rattle.verdict.specs.Verdict.{Accepted, IsVerdict, folded_if};
+ghost use Rattle.pareas_core.specs.Coded.{AreFrames, AreRowsOf, IsClean, IsCoded};
 
-use ast_rows::{Names, Rows};
-use code_rules::numbers_are_small;
+use crate::clean::compiled_programs_are_clean;
+use ast_rows::{Names, Rows, Tokens};
+use fold_pass::fold;
 use front_end::{Analysis, Refusal, limits_come_last, place};
 use par_passes::Passes;
 use row_laws::rows_are_few;
 use rv_emit::CodeFault;
 use rv_regs::{FrameFault, Frames, depths, frames};
+use scan_lookback::Steps;
+use std::alloc::AllocError;
+use std::marker::Brand;
+use std::sync::ledger::{Blank, Ledger};
 
-// The frames of the functions.
+// What is left of an analysis for the code: the tokens, the rows, and what names mean. The types end here.
+fn parts(analysis: Analysis) -> (Tokens, Rows, Names)
+    ensures tokens { result.0 ≡ analysis.tokens }
+    ensures rows { result.1 ≡ analysis.rows }
+    ensures names { result.2 ≡ analysis.names }
+{
+    (analysis.tokens, analysis.rows, analysis.names)
+}
+
+// The rows and the names of the folded program. The rounds that find its constants are counted in a ledger that ends here.
+fn folded<L: Ledger>(
+    crew: &impl Passes,
+    rows: Rows,
+    names: Names,
+    blank: Blank,
+) -> Result<(Rows, Names), AllocError>
+    requires ledger { (blank.name ≡ L.name) × (blank.parts ≡ L.parts) × (0 < L.parts) }
+    requires nodes { length rows ≤ most_rows }
+    ensures few { IfOk result (λ v. length v.0 ≤ most_rows) }
+    ensures are { IfOk result (λ v. (p : Source) (end : _) → IsClean end p → AreRowsOf p rows names → AreRowsOf (folded_program p) v.0 v.1) }
+{
+    let mut steps = Steps::<L>::new(blank);
+    fold(crew, rows, names, &mut steps)
+}
+
+// The rows and the names of the program that is compiled: with its constants folded, or as they are.
+fn compiled(
+    crew: &impl Passes,
+    rows: Rows,
+    names: Names,
+    is_folded: bool,
+) -> Result<(Rows, Names), AllocError>
+    requires nodes { length rows ≤ most_rows }
+    ensures few { IfOk result (λ v. length v.0 ≤ most_rows) }
+    ensures are { IfOk result (λ v. (p : Source) (end : _) → IsClean end p → AreRowsOf p rows names → AreRowsOf (folded_if is_folded p) v.0 v.1) }
+{
+    if is_folded {
+        folded::<Brand>(crew, rows, names, Blank::new(1))
+    } else {
+        Ok((rows, names))
+    }
+}
+
+// The frames of the functions. The tokens, which tell the place of one that is too large, end here.
 fn framed(
     crew: &impl Passes,
     source: &[u8],
-    analysis: &Analysis,
+    tokens: Tokens,
+    rows: &Rows,
     depths: &[u32],
 ) -> Result<Frames, Refusal>
-    requires nodes { length analysis.now.rows ≤ most_rows }
-    requires fits { length source.now ≤ most_source }
-    ensures ok { IfOk result (λ f. (t : Tree Prog) → IsAnalysis source.now t analysis.now → depths.now ≡ depths_of (ast t) → AreFrames source.now analysis.now depths.now f t) }
-    ensures refused { (t : Tree Prog) → IsAnalysis source.now t analysis.now → depths.now ≡ depths_of (ast t) → IfErr result (IsRefusedBy source.now) }
+    requires nodes { length rows.now ≤ most_rows }
+    requires lexed { AreTokens source.now tokens }
+    ensures ok { IfOk result (λ f. (fold : Bool) (t : Tree Prog) → IsChecked source.now t → rows.now ≡ post (folded_if fold (ast t)) → depths.now ≡ depths_of (folded_if fold (ast t))
+        → AreFrames (folded_if fold (ast t)) f) }
+    ensures refused { (fold : Bool) (t : Tree Prog) → IsChecked source.now t → rows.now ≡ post (folded_if fold (ast t)) → depths.now ≡ depths_of (folded_if fold (ast t))
+        → IfErr result (IsRefusedBy fold source.now) }
 {
     limits_come_last();
-    match frames(crew, &analysis.rows, depths) {
+    compiled_programs_are_clean();
+    match frames(crew, rows, depths) {
         Ok(frames) => Ok(frames),
         Err(FrameFault::Large { at, bytes }) => Err(Refusal::Limit {
             code: 602,
-            at: place(source, &analysis.tokens, u64::from(at)),
+            at: place(source, &tokens, u64::from(at)),
             bytes,
         }),
         Err(FrameFault::NoMemory) => Err(Refusal::NoMemory),
     }
-}
-
-// What code is made of: the rows, and what names mean. The tokens and the types end here.
-fn rows_and_names(analysis: Analysis) -> (Rows, Names)
-    ensures rows { result.0 ≡ analysis.rows }
-    ensures names { result.1 ≡ analysis.names }
-{
-    (analysis.rows, analysis.names)
 }
 
 // The words of the program.
@@ -58,13 +105,14 @@ fn emitted(
     frames: &Frames,
 ) -> Result<Vec<u32>, Refusal>
     requires nodes { length rows.now ≤ most_rows }
-    requires framed { (t : Tree Prog) × AreLeft source.now rows.now names depths.now frames.now t }
-    ensures ok { IfOk result (λ v. (t : Tree Prog) × IsVerdict source.now (Accepted (ast t)) × (v.items ≡ words_of (ast t))) }
+    requires coded { (fold : Bool) × (t : Tree Prog) × IsCoded fold source.now t rows.now names depths.now frames.now }
+    ensures ok { IfOk result (λ v. (fold : Bool) (t : Tree Prog) → IsCoded fold source.now t rows.now names depths.now frames.now
+        → IsVerdict fold source.now (Accepted (folded_if fold (ast t))) × (v.items ≡ words_of (folded_if fold (ast t)))) }
     ensures few { IfOk result (λ v. length v.items ≤ most_long) }
-    ensures refused { IfErr result (IsRefusedBy source.now) }
+    ensures refused { (fold : Bool) (t : Tree Prog) → IsCoded fold source.now t rows.now names depths.now frames.now → IfErr result (IsRefusedBy fold source.now) }
 {
     limits_come_last();
-    numbers_are_small();
+    compiled_programs_are_clean();
     match rv_emit::code(crew, rows, names, depths, frames) {
         Ok(words) => Ok(words),
         Err(CodeFault::Large { bytes }) => Err(Refusal::Limit {
@@ -76,16 +124,23 @@ fn emitted(
     }
 }
 
-/// The words of a source's program, or the limit that its frames or its code pass.
-pub fn code(crew: &impl Passes, source: &[u8], analysis: Analysis) -> Result<Vec<u32>, Refusal>
+/// The words of a source's program, with its constants folded where `fold` says so, or the limit that its frames or its code pass.
+pub fn code(
+    crew: &impl Passes,
+    source: &[u8],
+    analysis: Analysis,
+    fold: bool,
+) -> Result<Vec<u32>, Refusal>
     requires analyzed { (t : Tree Prog) × IsAnalysis source.now t analysis }
-    ensures ok { IfOk result (λ v. (t : Tree Prog) × IsVerdict source.now (Accepted (ast t)) × (v.items ≡ words_of (ast t))) }
+    ensures ok { IfOk result (λ v. (p : Source) × IsVerdict fold source.now (Accepted p) × (v.items ≡ words_of p)) }
     ensures few { IfOk result (λ v. length v.items ≤ most_long) }
-    ensures refused { IfErr result (IsRefusedBy source.now) }
+    ensures refused { IfErr result (IsRefusedBy fold source.now) }
 {
     rows_are_few();
-    let depths = depths(crew, &analysis.rows)?;
-    let frames = framed(crew, source, &analysis, &depths)?;
-    let (rows, names) = rows_and_names(analysis);
+    compiled_programs_are_clean();
+    let (tokens, rows, names) = parts(analysis);
+    let (rows, names) = compiled(crew, rows, names, fold)?;
+    let depths = depths(crew, &rows)?;
+    let frames = framed(crew, source, tokens, &rows, &depths)?;
     emitted(crew, source, &rows, names, &depths, &frames)
 }

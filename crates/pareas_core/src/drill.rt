@@ -40,7 +40,7 @@ pub(crate) fn drill(crew: &impl Passes, seed: u32, functions: u32) -> Result<Res
 {
     one_verdict();
     let text = source(crew.alloc(), seed, functions)?;
-    match compile_counting(crew, &text) {
+    match compile_counting(crew, &text, false) {
         Ok(made) => {
             let lines = lines(crew.alloc(), &text, &made)?;
             emulate(crew.alloc(), lines, &made.file, steps())

@@ -1,6 +1,7 @@
 //! The compiler from source text to an executable file, and what its program reads and writes.
 #![tactic(auto)]
 
+mod clean;
 mod coding;
 mod compiler;
 mod drill;

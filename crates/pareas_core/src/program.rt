@@ -33,7 +33,7 @@ fn limit_of(command: &Command) -> usize
     ensures { result ≡ most_bytes command.now }
 {
     match command {
-        Command::Build | Command::Run { .. } => MOST_SOURCE,
+        Command::Build { .. } | Command::Run { .. } => MOST_SOURCE,
         Command::Emu { .. } | Command::Dump => MOST_IMAGE,
         Command::Asm => MOST_LISTING,
         Command::Table { .. } => MOST_GRAMMAR,

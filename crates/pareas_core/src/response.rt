@@ -80,11 +80,11 @@ pub(crate) fn refused(
 }
 
 // The image of the source.
-fn build(crew: &impl Passes, source: &[u8]) -> Result<Response, AllocError>
-    ensures { IfOk result (λ response. IsResponse Build source.now response) }
+fn build(crew: &impl Passes, source: &[u8], fold: bool) -> Result<Response, AllocError>
+    ensures { IfOk result (λ response. IsResponse (Build fold) source.now response) }
 {
     one_verdict();
-    match compile(crew, source) {
+    match compile(crew, source, fold) {
         Ok(file) => Ok(Response {
             status: Status::Done,
             out: file,
@@ -95,11 +95,11 @@ fn build(crew: &impl Passes, source: &[u8]) -> Result<Response, AllocError>
 }
 
 // How the image of the source runs.
-fn run(crew: &impl Passes, source: &[u8], steps: u32) -> Result<Response, AllocError>
-    ensures { IfOk result (λ response. IsResponse (Run steps) source.now response) }
+fn run(crew: &impl Passes, source: &[u8], steps: u32, fold: bool) -> Result<Response, AllocError>
+    ensures { IfOk result (λ response. IsResponse (Run steps fold) source.now response) }
 {
     one_verdict();
-    match compile(crew, source) {
+    match compile(crew, source, fold) {
         Ok(file) => emulate(crew.alloc(), Vec::new(crew.alloc()), &file, steps),
         Err(refusal) => refused(crew.alloc(), source, refusal),
     }
@@ -115,8 +115,8 @@ pub(crate) fn respond(
     ensures { IfOk result (λ response. IsResponse command.now bytes.now response) }
 {
     match command {
-        Command::Build => build(crew, bytes),
-        Command::Run { steps } => run(crew, bytes, *steps),
+        Command::Build { fold } => build(crew, bytes, *fold),
+        Command::Run { steps, fold } => run(crew, bytes, *steps, *fold),
         Command::Emu { steps } => emulate(crew.alloc(), Vec::new(crew.alloc()), bytes, *steps),
         Command::Dump => dump(crew.alloc(), bytes),
         Command::Asm => asm(crew.alloc(), bytes),

@@ -2,7 +2,7 @@
 #![tactic(auto)]
 
 use chunk_seats::OpenGate;
-use pareas_core::{MemoryIn, MemoryOut, pareas};
+use pareas_core::{MemoryIn, MemoryOut, Status, pareas};
 use std::alloc::{AllocError, Global};
 use std::thread::Threads;
 
@@ -17,9 +17,10 @@ const WORKERS: [&str; 3] = ["1", "4", "64"];
 
 const CHUNKS: [&str; 3] = ["1", "7", "65536"];
 
-/// What a call of the program has written.
+/// What a call of the program has written, and its status.
 #[derive(Drop)]
 pub struct Written {
+    status: Status,
     out: MemoryOut,
     notes: MemoryOut,
 }
@@ -35,8 +36,13 @@ impl Written {
         self.notes.written()
     }
 
-    // Whether the same bytes were written.
-    fn is_same(&self, other: &Written) -> bool {
+    /// Whether a program ran to its end, or a source was refused: no limit, of steps, of the stack or of the code, broke off what it asked for.
+    pub fn is_settled(&self) -> bool {
+        matches!(self.status, Status::Done | Status::Refused)
+    }
+
+    /// Whether the same bytes were written.
+    pub fn is_same(&self, other: &Written) -> bool {
         self.out() == other.out() && self.notes() == other.notes()
     }
 }
@@ -55,8 +61,8 @@ pub fn call<R: Threads + Sync>(
     let mut input = MemoryIn::new(source.to_vec(alloc)?, STEP, Vec::new(alloc));
     let mut out = MemoryOut::new(alloc, ROOM, STEP, Vec::new(alloc))?;
     let mut notes = MemoryOut::new(alloc, ROOM, STEP, Vec::new(alloc))?;
-    pareas(rt, alloc, &all, &mut input, &mut out, &mut notes, &OpenGate);
-    Ok(Written { out, notes })
+    let status = pareas(rt, alloc, &all, &mut input, &mut out, &mut notes, &OpenGate);
+    Ok(Written { status, out, notes })
 }
 
 /// Whether a build of the source comes to one answer under all plans, and where the words name none.

@@ -8,6 +8,8 @@ mod commands;
 #[cfg(test)]
 mod ends;
 #[cfg(test)]
+mod folds;
+#[cfg(test)]
 mod overlap;
 #[cfg(test)]
 mod plans;

@@ -66,17 +66,21 @@ fn passes_of_phases<R: Threads + Abort + Sync>(rt: &R, alloc: Global) -> Result<
     ])
 }
 
-// Those from depths to words.
-fn passes_of_code<R: Threads + Abort + Sync>(rt: &R, alloc: Global) -> Result<Passed, Fail> {
-    let Ok(analysis) = front(&pair(rt, alloc, &OpenGate)?, SEVEN) else {
+// How many words the code of a source has, and the passes from depths to words; where constants are folded, with those of folding before them.
+fn passes_of_code<R: Threads + Abort + Sync>(
+    rt: &R,
+    alloc: Global,
+    source: &[u8],
+    fold: bool,
+) -> Result<(usize, Passed), Fail> {
+    let Ok(analysis) = front(&pair(rt, alloc, &OpenGate)?, source) else {
         return Err("refused".into());
     };
     let gate = Meeting::new();
-    let Ok(words) = code(&pair(rt, alloc, &gate)?, SEVEN, analysis) else {
+    let Ok(words) = code(&pair(rt, alloc, &gate)?, source, analysis, fold) else {
         return Err("refused".into());
     };
-    assert_eq!(rt; words.len(), 15);
-    Ok(gate.counts())
+    Ok((words.len(), gate.counts()))
 }
 
 // Those of `pareas build`.
@@ -99,14 +103,31 @@ fn passes_of_build<R: Threads + Abort + Sync>(rt: &R, alloc: Global) -> Result<P
 // declaration) and types.
 const PHASES: [Passed; 5] = [(6, 0), (3, 0), (5, 0), (5, 1), (4, 0)];
 
-// Those of depths, frames, columns, sizes, places and words. Three are over the only function.
-const CODE: Passed = (17, 3);
+// Those of depths, frames, columns, sizes, places and words. Three are over the only function, and no block of the rows is whole, so there is none over
+// blocks.
+const CODE: Passed = (15, 3);
+
+// A function with more than one block of rows, whose result can be folded.
+const LONG: &[u8] =
+    b"fn main(): int { 0; 0; 0; 0; 0; 0; 0; 0; 0; 0; 0; 0; 0; 0; 0; 0; 0; 0; 0; 0; 0; 0; 0; 0; 0; 0; 0; 0; 0; 0; 0; 0; 0; 0; 0; 0; 0; 0; 0; 0; return 3+4; }";
+
+const LONG_CODE: Passed = (17, 3);
+
+// Those of folding too, of which one is over the only operator.
+const FOLDED_CODE: Passed = (33, 4);
 
 #[test]
 fn two_workers_meet_in_each_pass(rt: HostRuntime) -> Result<(), Fail> {
     let found = passes_of_phases(&rt, rt.alloc())?;
     assert!(rt; found == PHASES, "{found:?}");
-    assert_eq!(rt; passes_of_code(&rt, rt.alloc())?, CODE);
+    for (source, fold, wanted) in [
+        (SEVEN, false, (15, CODE)),
+        (LONG, false, (59, LONG_CODE)),
+        (LONG, true, (55, FOLDED_CODE)),
+    ] {
+        let found = passes_of_code(&rt, rt.alloc(), source, fold)?;
+        assert!(rt; found == wanted, "{found:?}");
+    }
     Ok(())
 }
 

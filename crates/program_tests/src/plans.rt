@@ -9,7 +9,7 @@ use std::test::Fail;
 use std::thread::Threads;
 
 /// Options of plans: each number of workers with each number of items that a worker draws at a time.
-const PLANS: &[&[&str]] = &[
+pub(crate) const PLANS: &[&[&str]] = &[
     &["--workers", "1", "--chunk", "1"],
     &["--workers", "1", "--chunk", "7"],
     &["--workers", "1", "--chunk", "65536"],

@@ -49,12 +49,20 @@ fn refused_with(alloc: Global, line: &str) -> Result<Option<String>, AllocError>
 
 /// Command lines, and what they ask for: nothing where they are refused.
 const LINES: &[(&str, &str)] = &[
-    ("pareas build", "Build 4 1024"),
-    ("pareas build --workers 64 --chunk=65536", "Build 64 65536"),
-    ("pareas run", "Run { steps: 1000000 } 4 1024"),
+    ("pareas build", "Build { fold: false } 4 1024"),
+    (
+        "pareas build --workers 64 --chunk=65536",
+        "Build { fold: false } 64 65536",
+    ),
+    ("pareas build --chunk 7 --fold", "Build { fold: true } 4 7"),
+    ("pareas run", "Run { steps: 1000000, fold: false } 4 1024"),
     (
         "pareas run --steps 14 --workers 1",
-        "Run { steps: 14 } 1 1024",
+        "Run { steps: 14, fold: false } 1 1024",
+    ),
+    (
+        "pareas run --fold --steps 14",
+        "Run { steps: 14, fold: true } 4 1024",
     ),
     (
         "pareas emu --steps 1000000000",
@@ -101,6 +109,11 @@ const LINES: &[(&str, &str)] = &[
     ("pareas build --chunk 65537", ""),
     ("pareas build --chunk x", ""),
     ("pareas build --steps 3", ""),
+    ("pareas build --fold --fold", ""),
+    ("pareas run --fold=true", ""),
+    ("pareas run --fold true", ""),
+    ("pareas emu --fold", ""),
+    ("pareas drill --seed 1 --functions 1 --fold", ""),
     ("pareas emu --workers 1", ""),
     ("pareas run --steps", ""),
     ("pareas run --steps 1 --steps 1", ""),
@@ -194,6 +207,7 @@ Usage: pareas build [OPTIONS]
 Options:
       --workers <N>  Threads that share the work, 1 to 64 [default: 4]
       --chunk <C>    Items that a thread draws at a time, 1 to 65536 [default: 1024]
+      --fold         Fold the constants of the program
   -h, --help         Print help
 ";
 
@@ -206,6 +220,7 @@ Options:
       --workers <N>  Threads that share the work, 1 to 64 [default: 4]
       --chunk <C>    Items that a thread draws at a time, 1 to 65536 [default: 1024]
       --steps <M>    Steps after which the machine stops, 0 to 1000000000 [default: 1000000]
+      --fold         Fold the constants of the program
   -h, --help         Print help
 ";
 

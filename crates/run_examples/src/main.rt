@@ -1,8 +1,9 @@
 //! Runs the example programs that standard input names, one a line, and prints what each writes; those in a folder `refused` are to be built.
-//! Those in the folder `worked` are compiled under nine plans too, and the last line counts those that came to one answer under all.
+//! Each is called a second time with its constants folded, and a line counts those that came to the same: a program that runs to its end, or a source
+//! that is refused. Those in the folder `worked` are compiled under nine plans too, and the last line counts those that came to one answer under all.
 #![tactic(auto)]
 
-use plan_trials::{call, is_one_answer};
+use plan_trials::{Written, call, is_one_answer};
 use std::alloc::Global;
 use std::fs;
 use std::io::{self, Write};
@@ -24,25 +25,41 @@ fn show<R: Threads + Print + Sync>(
     alloc: Global,
     name: &str,
     source: &[u8],
-) -> io::Result<()> {
+) -> io::Result<Written> {
     let written = call(rt, alloc, &["pareas", command(name)], source)?;
     print!(rt; "{name}: ")?;
     io::writer(rt).write_all(written.out())?;
-    io::writer(rt).write_all(written.notes())
+    io::writer(rt).write_all(written.notes())?;
+    Ok(written)
 }
 
-/// How many examples were compiled under nine plans, and how many of them came to one answer.
+/// Whether the example comes to the same with its constants folded.
+fn folds_alike<R: Threads + Sync>(
+    rt: &R,
+    alloc: Global,
+    name: &str,
+    source: &[u8],
+    written: &Written,
+) -> io::Result<bool> {
+    let folded = call(rt, alloc, &["pareas", command(name), "--fold"], source)?;
+    Ok(folded.is_same(written))
+}
+
+/// How many examples were tried in some way, and how many of them came to the same.
 #[derive(Clone, Copy)]
 struct Tally {
-    worked: u64,
+    tried: u64,
     same: u64,
 }
 
 impl Tally {
+    /// No example yet.
+    const NONE: Tally = Tally { tried: 0, same: 0 };
+
     /// One example more.
     fn and(self, is_same: bool) -> Tally {
         Tally {
-            worked: self.worked.saturating_add(1),
+            tried: self.tried.saturating_add(1),
             same: self.same.saturating_add(u64::from(is_same)),
         }
     }
@@ -50,17 +67,27 @@ impl Tally {
 
 fn main(rt: HostRuntime) -> io::Result<()> {
     let alloc = rt.alloc();
-    let mut tally = Tally { worked: 0, same: 0 };
+    let mut folded = Tally::NONE;
+    let mut worked = Tally::NONE;
     for line in rt.lines(alloc) {
         let name = line?;
-        let source = fs::read_to_string(&rt, name.as_str())?;
-        show(&rt, alloc, name.as_str(), source.as_bytes())?;
+        let name = name.as_str();
+        let text = fs::read_to_string(&rt, name)?;
+        let source = text.as_bytes();
+        let written = show(&rt, alloc, name, source)?;
+        if written.is_settled() {
+            folded = folded.and(folds_alike(&rt, alloc, name, source, &written)?);
+        }
         if name.starts_with("worked/") {
-            tally = tally.and(is_one_answer(&rt, alloc, source.as_bytes())?);
+            worked = worked.and(is_one_answer(&rt, alloc, source)?);
         }
     }
     println!(rt;
+        "The same output or refusal with constants folded: {} of {}",
+        folded.same, folded.tried
+    )?;
+    println!(rt;
         "The same file or refusal under each of nine plans: {} of {}",
-        tally.same, tally.worked
+        worked.same, worked.tried
     )
 }

@@ -18,6 +18,10 @@ enum Trial {
     Run,
     /// The same, with this number of steps at most.
     RunFor(&'static str),
+    /// It is compiled with its constants folded; how many bytes its image has, or why there is none.
+    BuildFolded,
+    /// It is compiled with its constants folded, and run; how it ends, or why it has no image.
+    RunFolded,
     /// It is compiled under nine plans; whether all come to one answer.
     Compare,
 }
@@ -192,6 +196,21 @@ const SOURCES: &[Row] = &[
         Source::Arguments(100_000),
         &[Trial::Run],
     ),
+    (
+        "100,000 sums to the left",
+        Source::Filled {
+            before: b"fn main(): int { return 0",
+            piece: b"+1",
+            count: 100_000,
+            behind: b"; }",
+        },
+        &[
+            Trial::Build,
+            Trial::Run,
+            Trial::BuildFolded,
+            Trial::RunFolded,
+        ],
+    ),
     // deep ones
     (
         "100,000 parentheses",
@@ -221,7 +240,7 @@ const SOURCES: &[Row] = &[
             middle: b"7",
             behind: b"",
         },
-        &[Trial::Run],
+        &[Trial::Run, Trial::RunFolded],
     ),
     (
         "20,000 chained assignments",
@@ -251,7 +270,7 @@ const SOURCES: &[Row] = &[
             middle: b"7",
             behind: b")",
         },
-        &[Trial::Build, Trial::Run],
+        &[Trial::Build, Trial::Run, Trial::BuildFolded],
     ),
     (
         "100,000 sums to the right",
@@ -261,7 +280,7 @@ const SOURCES: &[Row] = &[
             middle: b"7",
             behind: b")",
         },
-        &[Trial::Run],
+        &[Trial::Run, Trial::RunFolded],
     ),
     (
         "100,000 blocks",
@@ -302,9 +321,14 @@ const SOURCES: &[Row] = &[
     ),
 ];
 
-/// Compiles the source, and prints how many bytes its image has, or why there is none.
-fn build<R: Threads + Print + Sync>(rt: &R, alloc: Global, source: &[u8]) -> io::Result<()> {
-    let written = call(rt, alloc, &["pareas", "build"], source)?;
+/// Compiles the source by this command, and prints how many bytes its image has, or why there is none.
+fn build<R: Threads + Print + Sync>(
+    rt: &R,
+    alloc: Global,
+    words: &[&str],
+    source: &[u8],
+) -> io::Result<()> {
+    let written = call(rt, alloc, words, source)?;
     if written.notes().is_empty() {
         println!(rt; "an image of {} bytes", written.out().len())
     } else {
@@ -341,7 +365,9 @@ fn attempt<R: Threads + Print + Sync>(
     source: &[u8],
 ) -> io::Result<()> {
     match trial {
-        Trial::Build => build(rt, alloc, source),
+        Trial::Build => build(rt, alloc, &["pareas", "build"], source),
+        Trial::BuildFolded => build(rt, alloc, &["pareas", "build", "--fold"], source),
+        Trial::RunFolded => show(rt, alloc, &["pareas", "run", "--fold"], source),
         Trial::Run => show(rt, alloc, &["pareas", "run"], source),
         Trial::RunFor(steps) => show(rt, alloc, &["pareas", "run", "--steps", steps], source),
         Trial::Compare => compare(rt, alloc, source),

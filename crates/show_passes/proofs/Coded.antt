@@ -7,13 +7,13 @@ use Rattle.source_meaning.specs.Ast.{Function, Program}
 use Rattle.source_meaning.specs.Frames.{Frame, frame}
 use Rattle.source_meaning.specs.Grammar.{Tree, Prog, ast}
 use Rattle.source_meaning.specs.Lexemes.{tokens}
-use Rattle.source_meaning.specs.Rows.{post}
+use Rattle.source_meaning.specs.Rows.{Row, post}
+use Rattle.ast_rows.specs.NameRows.{NameRows}
 use Rattle.row_rules.specs.Steps.{kind_at}
 use Rattle.code_rules.specs.Reach.{IsSmall}
 use Rattle.code_rules.specs.RowTables.{frame_in}
-use Rattle.front_end.specs.declared.analysis.Analysis.{Analysis}
 use Rattle.rv_emit.specs.Compilable.{IsCompilable}
-use Rattle.pareas_core.specs.Coded.{AreFrames}
+use Rattle.pareas_core.specs.Coded.{IsCoded}
 
 abbrev large : Function → Bool
 large f = nat_lt most_frame (frame f).bytes
@@ -30,16 +30,17 @@ frames_small [] e j h = absurd (omega arith)
 frames_small (f ∷ fs) e zero h = let b = (first_not f fs e).0 in grind (arith, nat_tests)
 frames_small (f ∷ fs) e (suc j) h = frames_small fs (first_not f fs e).1 j (omega arith)
 
-pub compilable : (text : List ℕ) (a : Analysis) (deep : List ℕ) (frames : List Frame) (t : Tree Prog) → AreFrames text a deep frames t → ((k : ℕ) → k < length (post (ast t)) → IsSmall (kind_at (ast t) k)) → IsCompilable (ast t) a.rows a.names deep frames
-compilable text a deep frames t f small = record {
-  rows_are = f.analyzed.rows_are;
-  shaped = f.analyzed.checked.shaped;
-  named = record { names = f.analyzed.names_are; end = length (tokens text); faultless = f.analyzed.checked.scoped };
-  meant_many = f.analyzed.meant_many;
-  numbers_many = f.analyzed.numbers_many;
-  typed = f.analyzed.checked.typed;
+pub compilable : (text : List ℕ) (rows : List Row) (names : NameRows) (deep : List ℕ) (frames : List Frame) (t : Tree Prog) → IsCoded false text t rows names deep frames
+    → ((k : ℕ) → k < length (post (ast t)) → IsSmall (kind_at (ast t) k)) → IsCompilable (ast t) rows names deep frames
+compilable text rows names deep frames t c small = record {
+  rows_are = c.are.rows_are;
+  shaped = c.checked.shaped;
+  named = record { names = c.are.names_are; end = length (tokens text); faultless = c.checked.scoped };
+  meant_many = c.are.meant_many;
+  numbers_many = c.are.numbers_many;
+  typed = c.checked.typed;
   small = small;
-  framed = frames_small (ast t) f.none_large;
-  depths_are = f.depths_are;
-  frames_are = f.frames_are;
+  framed = frames_small (ast t) c.framed.none_large;
+  depths_are = c.depths_are;
+  frames_are = c.framed.frames_are;
 }

@@ -1,11 +1,11 @@
 //! The code: depths, frames, sizes and places of the rows' pieces, words, and the file.
-ghost use Rattle.std.specs.Prelude.{◌≡◌, ◌≤◌, length, IfOk};
+ghost use Rattle.std.specs.Prelude.{◌≡◌, ◌≤◌, false, length, IfOk};
 ghost use Rattle.limits.specs.Limits.{most_rows};
 ghost use Rattle.source_meaning.specs.Ast.{Program as Source};
 ghost use Rattle.source_meaning.specs.Grammar.{Tree, Prog, ast};
 ghost use Rattle.source_meaning.specs.Frames.{depths as depths_of};
 ghost use Rattle.front_end.specs.Front.{IsAnalysis};
-ghost use Rattle.pareas_core.specs.Coded.{AreFrames};
+ghost use Rattle.pareas_core.specs.Coded.{AreFrames, IsCoded};
 ghost use Rattle.rv_emit.specs.Compilable.{IsCompilable};
 
 use crate::page::{Page, at};
@@ -17,6 +17,7 @@ use row_laws::rows_are_few;
 use rv_emit::{code_columns, emit, places, sizes};
 use rv_regs::{FrameFault, Frames, depths, frames};
 use rv_text::{push_hexadecimal, push_line};
+use simulation::numbers_are_words;
 use source_meaning::Kind;
 use std::alloc::AllocError;
 
@@ -31,7 +32,7 @@ fn framed(
     depths: &[u32],
 ) -> Result<Frames, FrameFault>
     requires nodes { length analysis.now.rows ≤ most_rows }
-    ensures { IfOk result (λ f. (t : Tree Prog) → IsAnalysis source.now t analysis.now → depths.now ≡ depths_of (ast t) → AreFrames source.now analysis.now depths.now f t) }
+    ensures { IfOk result (λ f. (t : Tree Prog) → IsAnalysis source.now t analysis.now → depths.now ≡ depths_of (ast t) → AreFrames (ast t) f) }
 {
     // The contract alone speaks of it.
     let _ = source;
@@ -148,11 +149,12 @@ fn show_emitted(
     frames: &Frames,
 ) -> Result<(), AllocError>
     requires nodes { length analysis.now.rows ≤ most_rows }
-    requires framed { (t : Tree Prog) × AreFrames source.now analysis.now depths.now frames.now t }
+    requires coded { (t : Tree Prog) × IsCoded false source.now t analysis.now.rows analysis.now.names depths.now frames.now }
 {
     // The contract alone speaks of it.
     let _ = source;
     numbers_are_small();
+    numbers_are_words();
     show_program(crew, page, analysis, depths, frames)
 }
 

@@ -3,4 +3,4 @@ use Rattle.verdict.specs.Verdict.{lexical}
 use Rattle.front_end.proofs.phases.lexed.Goals as goal
 
 pub returns-in-Err-Diagnostic-clause-refused : goal.returns-in-Err-Diagnostic-clause-refused
-returns-in-Err-Diagnostic-clause-refused g c = lexical c.in-Err-Diagnostic.code c.in-Err-Diagnostic.at c.requires.fits (c.in-Err-Diagnostic.ensures.fault c.in-Err-Diagnostic.code c.in-Err-Diagnostic.at (ap Err c.in-Err-Diagnostic.field-0-is))
+returns-in-Err-Diagnostic-clause-refused g c = λ fold. lexical c.in-Err-Diagnostic.code c.in-Err-Diagnostic.at c.requires.fits (c.in-Err-Diagnostic.ensures.fault c.in-Err-Diagnostic.code c.in-Err-Diagnostic.at (ap Err c.in-Err-Diagnostic.field-0-is))

@@ -26,12 +26,12 @@ returns-in-Ok-clause-ok g c =
     (r.0, (r.1, r.2))
 
 pub returns-in-Err-Syntax-clause-refused : goal.returns-in-Err-Syntax-clause-refused
-returns-in-Err-Syntax-clause-refused g c =
+returns-in-Err-Syntax-clause-refused g c = λ fold.
     let text = c.args.source.now in
     let well = c.spelled_grammars_are_well_formed.ensures G2.now grammar c.grammar_is_spelled.ensures in
     let faulty : IsFaultBy c.args.tables.now c.as_slice.result.now (Syntax c.in-Err-Syntax.at) = subst (IsFaultBy c.args.tables.now c.as_slice.result.now) c.in-Err-Syntax.field-0-is c.in-Err-Syntax.ensures.fault in
     let is = faulty grammar c.requires.tables well c.requires.reduced in
     let word : c.as_slice.result.now ≡ map (λ t. terminal_number t.terminal) (tokens text) =
     c.as_slice.ensures.value ∙ (c.in_ok-word.ensures ∙ (ap (λ (rs : List TokenRow). map (λ r. terminal_number r.terminal) rs) c.requires.lexed.are ∙ terminals_of (tokens text))) in
-    subst (λ (k : ℕ). IsVerdict text (Diagnosed 201 k)) (sym (c.place.ensures c.requires.lexed))
+    subst (λ (k : ℕ). IsVerdict fold text (Diagnosed 201 k)) (sym (c.place.ensures c.requires.lexed))
     (syntactic c.in-Err-Syntax.at c.requires.lexed.fits c.requires.lexed.lexical (subst (λ w. IsSyntaxPlace grammar w c.in-Err-Syntax.at) word is))

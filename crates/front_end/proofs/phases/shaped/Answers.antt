@@ -5,9 +5,9 @@ use Rattle.front_end.proofs.Judging.{shape_told}
 use Rattle.front_end.proofs.phases.shaped.Goals as goal
 
 pub returns-in-Err-Diagnostic-clause-refused : goal.returns-in-Err-Diagnostic-clause-refused
-returns-in-Err-Diagnostic-clause-refused g c =
+returns-in-Err-Diagnostic-clause-refused g c = λ fold.
     let text = c.args.source.now in
     let t = c.requires.parsed.0 in
     let e = c.in-Err-Diagnostic.ensures.fault c.in-Err-Diagnostic.code c.in-Err-Diagnostic.at (ap Err c.in-Err-Diagnostic.field-0-is) t c.requires.parsed.1 in
-    subst (λ (k : ℕ). IsVerdict text (Diagnosed c.in-Err-Diagnostic.code k)) (sym (c.place.ensures c.requires.lexed ∙ ap (place_of text (tokens text)) c.from.ensures))
-    (shape_told text t c.requires.lexed.fits c.requires.lexed.lexical c.requires.parsed.1.0 (record { at = c.in-Err-Diagnostic.at; code = c.in-Err-Diagnostic.code }) e)
+    subst (λ (k : ℕ). IsVerdict fold text (Diagnosed c.in-Err-Diagnostic.code k)) (sym (c.place.ensures c.requires.lexed ∙ ap (place_of text (tokens text)) c.from.ensures))
+    (shape_told fold text t c.requires.lexed.fits c.requires.lexed.lexical c.requires.parsed.1.0 (record { at = c.in-Err-Diagnostic.at; code = c.in-Err-Diagnostic.code }) e)

@@ -1,25 +1,86 @@
-use Rattle.std.proofs.Common.{length, ap, arith}
+use Rattle.std.proofs.Common.{◌∙◌, length, ap, arith}
+use Rattle.std.proofs.lemmas.Result.{IfOk-weaker}
+use Rattle.source_meaning.specs.Grammar.{ast}
+use Rattle.front_end.specs.Front.{IsRefusedBy}
 use Rattle.front_end.specs.Laws.Counting.{tree_few}
+use Rattle.verdict.specs.Verdict.{folded_if}
+use Rattle.pareas_core.specs.Coded.{AreFrames, AreRowsOf, IsCoded}
+use Rattle.pareas_core.proofs.Chosen.{coded, depths_of, handed_on, rows_of}
 use Rattle.pareas_core.proofs.coding.code.Goals as goal
 
-pub depths-requires-clause-nodes : goal.depths-requires-clause-nodes
-depths-requires-clause-nodes g c =
+pub compiled-requires-clause-nodes : goal.compiled-requires-clause-nodes
+compiled-requires-clause-nodes g c κs within =
     let t = c.requires.analyzed.0 in
     let a = c.requires.analyzed.1 in
     let h = tree_few c.args.source.now c.args.analysis.rows t a.checked.fits (record { tree = a.checked.tree; shaped = a.checked.shaped; are = a.rows_are }) (c.rows_are_few.ensures t) in
+    let same = ap length c.parts-tokens.ensures.rows in
     omega arith
 
-pub framed-requires-clause-nodes : goal.framed-requires-clause-nodes
-framed-requires-clause-nodes g c =
-    let t = c.requires.analyzed.0 in
+pub framed-requires-clause-lexed : goal.framed-requires-clause-lexed
+framed-requires-clause-lexed g c κs within =
     let a = c.requires.analyzed.1 in
-    let h = tree_few c.args.source.now c.args.analysis.rows t a.checked.fits (record { tree = a.checked.tree; shaped = a.checked.shaped; are = a.rows_are }) (c.rows_are_few.ensures t) in
-    omega arith
+    record { fits = a.checked.fits; lexical = a.checked.lexical; are = c.parts-tokens.ensures.tokens ∙ a.tokens_are }
 
-pub emitted-requires-clause-nodes : goal.emitted-requires-clause-nodes
-emitted-requires-clause-nodes g c =
+pub emitted-requires-clause-coded : goal.emitted-requires-clause-coded
+emitted-requires-clause-coded g c κs within =
+    let fold = c.args.fold in
+    let text = c.args.source.now in
     let t = c.requires.analyzed.0 in
     let a = c.requires.analyzed.1 in
-    let h = tree_few c.args.source.now c.args.analysis.rows t a.checked.fits (record { tree = a.checked.tree; shaped = a.checked.shaped; are = a.rows_are }) (c.rows_are_few.ensures t) in
-    let same = ap length c.rows_and_names-rows.ensures.rows in
-    omega arith
+    let are : AreRowsOf (folded_if fold (ast t)) c.in_ok-rows.rows c.in_ok-rows.names =
+    rows_of fold text t c.args.analysis a c.parts-tokens.result.1 c.in_ok-rows.rows c.parts-tokens.result.2 c.in_ok-rows.names c.parts-tokens.ensures.rows c.parts-tokens.ensures.names c.compiled_programs_are_clean.ensures c.in_ok-rows.ensures.are in
+    let framed : AreFrames (folded_if fold (ast t)) c.in_ok-frames.frames =
+    c.in_ok-frames.ensures.ok fold t a.checked are.rows_are
+    (depths_of fold text t c.args.analysis a c.parts-tokens.result.1 c.in_ok-rows.rows c.parts-tokens.result.2 c.in_ok-rows.names c.parts-tokens.ensures.rows c.parts-tokens.ensures.names c.compiled_programs_are_clean.ensures c.in_ok-rows.ensures.are
+    c.in_ok-depths.depths.items c.in_ok-depths.ensures c.deref.result.now c.deref.ensures.value) in (
+      fold,
+      t,
+      coded fold text t c.args.analysis a c.parts-tokens.result.1 c.in_ok-rows.rows c.parts-tokens.result.2 c.in_ok-rows.names c.parts-tokens.ensures.rows c.parts-tokens.ensures.names c.compiled_programs_are_clean.ensures c.in_ok-rows.ensures.are
+          c.in_ok-depths.depths.items c.in_ok-depths.ensures c.deref-2.result.now c.in_ok-frames.frames c.deref-2.ensures.value framed,
+    )
+
+pub returns-in_err-frames-clause-refused : goal.returns-in_err-frames-clause-refused
+returns-in_err-frames-clause-refused g c =
+    let fold = c.args.fold in
+    let text = c.args.source.now in
+    let t = c.requires.analyzed.0 in
+    let a = c.requires.analyzed.1 in
+    let are : AreRowsOf (folded_if fold (ast t)) c.in_ok-rows.rows c.in_ok-rows.names =
+    rows_of fold text t c.args.analysis a c.parts-tokens.result.1 c.in_ok-rows.rows c.parts-tokens.result.2 c.in_ok-rows.names c.parts-tokens.ensures.rows c.parts-tokens.ensures.names c.compiled_programs_are_clean.ensures c.in_ok-rows.ensures.are in
+    handed_on (IsRefusedBy fold text) c.from_residual-in_err-frames.result c.in_err-frames.field-0.0 c.from_residual-in_err-frames.ensures.1
+    (c.in_err-frames.ensures.refused fold t a.checked are.rows_are
+    (depths_of fold text t c.args.analysis a c.parts-tokens.result.1 c.in_ok-rows.rows c.parts-tokens.result.2 c.in_ok-rows.names c.parts-tokens.ensures.rows c.parts-tokens.ensures.names c.compiled_programs_are_clean.ensures c.in_ok-rows.ensures.are
+    c.in_ok-depths.depths.items c.in_ok-depths.ensures c.deref.result.now c.deref.ensures.value))
+
+pub returns-clause-ok : goal.returns-clause-ok
+returns-clause-ok g c =
+    let fold = c.args.fold in
+    let text = c.args.source.now in
+    let t = c.requires.analyzed.0 in
+    let a = c.requires.analyzed.1 in
+    let are : AreRowsOf (folded_if fold (ast t)) c.in_ok-rows.rows c.in_ok-rows.names =
+    rows_of fold text t c.args.analysis a c.parts-tokens.result.1 c.in_ok-rows.rows c.parts-tokens.result.2 c.in_ok-rows.names c.parts-tokens.ensures.rows c.parts-tokens.ensures.names c.compiled_programs_are_clean.ensures c.in_ok-rows.ensures.are in
+    let framed : AreFrames (folded_if fold (ast t)) c.in_ok-frames.frames =
+    c.in_ok-frames.ensures.ok fold t a.checked are.rows_are
+    (depths_of fold text t c.args.analysis a c.parts-tokens.result.1 c.in_ok-rows.rows c.parts-tokens.result.2 c.in_ok-rows.names c.parts-tokens.ensures.rows c.parts-tokens.ensures.names c.compiled_programs_are_clean.ensures c.in_ok-rows.ensures.are
+    c.in_ok-depths.depths.items c.in_ok-depths.ensures c.deref.result.now c.deref.ensures.value) in
+    let all : IsCoded fold text t c.in_ok-rows.rows c.in_ok-rows.names c.deref-2.result.now c.in_ok-frames.frames =
+    coded fold text t c.args.analysis a c.parts-tokens.result.1 c.in_ok-rows.rows c.parts-tokens.result.2 c.in_ok-rows.names c.parts-tokens.ensures.rows c.parts-tokens.ensures.names c.compiled_programs_are_clean.ensures c.in_ok-rows.ensures.are
+    c.in_ok-depths.depths.items c.in_ok-depths.ensures c.deref-2.result.now c.in_ok-frames.frames c.deref-2.ensures.value framed in
+    IfOk-weaker c.emitted.result _ _ (λ v is. let it = is fold t all in (folded_if fold (ast t), it.0, it.1)) c.emitted.ensures.ok
+
+pub returns-clause-refused : goal.returns-clause-refused
+returns-clause-refused g c =
+    let fold = c.args.fold in
+    let text = c.args.source.now in
+    let t = c.requires.analyzed.0 in
+    let a = c.requires.analyzed.1 in
+    let are : AreRowsOf (folded_if fold (ast t)) c.in_ok-rows.rows c.in_ok-rows.names =
+    rows_of fold text t c.args.analysis a c.parts-tokens.result.1 c.in_ok-rows.rows c.parts-tokens.result.2 c.in_ok-rows.names c.parts-tokens.ensures.rows c.parts-tokens.ensures.names c.compiled_programs_are_clean.ensures c.in_ok-rows.ensures.are in
+    let framed : AreFrames (folded_if fold (ast t)) c.in_ok-frames.frames =
+    c.in_ok-frames.ensures.ok fold t a.checked are.rows_are
+    (depths_of fold text t c.args.analysis a c.parts-tokens.result.1 c.in_ok-rows.rows c.parts-tokens.result.2 c.in_ok-rows.names c.parts-tokens.ensures.rows c.parts-tokens.ensures.names c.compiled_programs_are_clean.ensures c.in_ok-rows.ensures.are
+    c.in_ok-depths.depths.items c.in_ok-depths.ensures c.deref.result.now c.deref.ensures.value) in
+    c.emitted.ensures.refused fold t
+    (coded fold text t c.args.analysis a c.parts-tokens.result.1 c.in_ok-rows.rows c.parts-tokens.result.2 c.in_ok-rows.names c.parts-tokens.ensures.rows c.parts-tokens.ensures.names c.compiled_programs_are_clean.ensures c.in_ok-rows.ensures.are
+    c.in_ok-depths.depths.items c.in_ok-depths.ensures c.deref-2.result.now c.in_ok-frames.frames c.deref-2.ensures.value framed)

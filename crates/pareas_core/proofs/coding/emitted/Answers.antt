@@ -4,52 +4,45 @@ use Rattle.limits.specs.Limits.{most_code}
 use Rattle.source_meaning.specs.Grammar.{ast}
 use Rattle.rv_isa.specs.Encoding.{word}
 use Rattle.rv_code.specs.Code.{most_long, instructions, words}
-use Rattle.verdict.specs.Verdict.{IsVerdict, Limited}
-use Rattle.pareas_core.proofs.Large.{compilable_left}
+use Rattle.verdict.specs.Verdict.{IsVerdict, Limited, folded_if}
+use Rattle.pareas_core.proofs.Large.{compilable}
 use Rattle.pareas_core.proofs.coding.emitted.Goals as goal
 
 pub code-requires-clause-program : goal.code-requires-clause-program
 code-requires-clause-program g c κs within =
-    let t = c.requires.framed.0 in
-    let left = c.requires.framed.1 in
-    let f = left.1 in
-    let k = f.analyzed.checked in
-    (ast t, compilable_left c.args.source.now c.args.rows.now c.args.names c.args.depths.now c.args.frames.now t left (c.numbers_are_small.ensures c.args.source.now t k.tree k.lexical k.shaped))
+    let fold = c.requires.coded.0 in
+    let t = c.requires.coded.1 in
+    let coded = c.requires.coded.2 in
+    (folded_if fold (ast t), compilable fold c.args.source.now t c.args.rows.now c.args.names c.args.depths.now c.args.frames.now coded (c.compiled_programs_are_clean.ensures fold c.args.source.now t coded.checked))
 
 pub returns-in-Ok-clause-ok : goal.returns-in-Ok-clause-ok
-returns-in-Ok-clause-ok g c =
+returns-in-Ok-clause-ok g c = λ fold t coded.
     let text = c.args.source.now in
-    let t = c.requires.framed.0 in
-    let left = c.requires.framed.1 in
-    let f = left.1 in
-    let k = f.analyzed.checked in
-    let is = c.in-Ok.ensures.ok (ast t) (compilable_left text c.args.rows.now c.args.names c.args.depths.now c.args.frames.now t left (c.numbers_are_small.ensures text t k.tree k.lexical k.shaped)) in
-    let many : length (words (ast t)) ≡ length (instructions (ast t)) = length-map (instructions (ast t)) word in
-    let few : 4 * length (instructions (ast t)) ≤ most_code = subst (λ (n : ℕ). 4 * n ≤ most_code) many is.0 in
-    (t, c.limits_come_last.ensures.accepted text t k f.none_large few, is.1)
+    let p = folded_if fold (ast t) in
+    let is = c.in-Ok.ensures.ok p (compilable fold text t c.args.rows.now c.args.names c.args.depths.now c.args.frames.now coded (c.compiled_programs_are_clean.ensures fold text t coded.checked)) in
+    let many : length (words p) ≡ length (instructions p) = length-map (instructions p) word in
+    let few : 4 * length (instructions p) ≤ most_code = subst (λ (n : ℕ). 4 * n ≤ most_code) many is.0 in
+    (c.limits_come_last.ensures.accepted fold text t coded.checked coded.framed.none_large few, is.1)
 
 pub returns-in-Ok-clause-few : goal.returns-in-Ok-clause-few
 returns-in-Ok-clause-few g c =
     let text = c.args.source.now in
-    let t = c.requires.framed.0 in
-    let left = c.requires.framed.1 in
-    let f = left.1 in
-    let k = f.analyzed.checked in
-    let is = c.in-Ok.ensures.ok (ast t) (compilable_left text c.args.rows.now c.args.names c.args.depths.now c.args.frames.now t left (c.numbers_are_small.ensures text t k.tree k.lexical k.shaped)) in
-    fewer (length c.in-Ok.words.items) (length (words (ast t))) (ap length is.1) is.0
+    let fold = c.requires.coded.0 in
+    let t = c.requires.coded.1 in
+    let coded = c.requires.coded.2 in
+    let p = folded_if fold (ast t) in
+    let is = c.in-Ok.ensures.ok p (compilable fold text t c.args.rows.now c.args.names c.args.depths.now c.args.frames.now coded (c.compiled_programs_are_clean.ensures fold text t coded.checked)) in
+    fewer (length c.in-Ok.words.items) (length (words p)) (ap length is.1) is.0
   where
     fewer : (m n : ℕ) → m ≡ n → 4 * n ≤ most_code → m ≤ most_long
     fewer m n e h = omega arith
 
 pub returns-in-Err-Large-clause-refused : goal.returns-in-Err-Large-clause-refused
-returns-in-Err-Large-clause-refused g c =
+returns-in-Err-Large-clause-refused g c = λ fold t coded.
     let text = c.args.source.now in
-    let t = c.requires.framed.0 in
-    let left = c.requires.framed.1 in
-    let f = left.1 in
-    let k = f.analyzed.checked in
-    let is = c.in-Err-Large.ensures.large c.in-Err-Large.bytes (ap Err c.in-Err-Large.field-0-is) (ast t) (compilable_left text c.args.rows.now c.args.names c.args.depths.now c.args.frames.now t left (c.numbers_are_small.ensures text t k.tree k.lexical k.shaped)) in
-    let many : length (words (ast t)) ≡ length (instructions (ast t)) = length-map (instructions (ast t)) word in
-    let bytes : c.in-Err-Large.bytes ≡ 4 * length (instructions (ast t)) = is.1 ∙ ap (λ (n : ℕ). 4 * n) many in
-    let large : most_code < 4 * length (instructions (ast t)) = subst (λ (n : ℕ). most_code < n) bytes is.0 in
-    subst (λ (n : ℕ). IsVerdict text (Limited 603 (length text) n)) (sym bytes) (c.limits_come_last.ensures.code text t k f.none_large large)
+    let p = folded_if fold (ast t) in
+    let is = c.in-Err-Large.ensures.large c.in-Err-Large.bytes (ap Err c.in-Err-Large.field-0-is) p (compilable fold text t c.args.rows.now c.args.names c.args.depths.now c.args.frames.now coded (c.compiled_programs_are_clean.ensures fold text t coded.checked)) in
+    let many : length (words p) ≡ length (instructions p) = length-map (instructions p) word in
+    let bytes : c.in-Err-Large.bytes ≡ 4 * length (instructions p) = is.1 ∙ ap (λ (n : ℕ). 4 * n) many in
+    let large : most_code < 4 * length (instructions p) = subst (λ (n : ℕ). most_code < n) bytes is.0 in
+    subst (λ (n : ℕ). IsVerdict fold text (Limited 603 (length text) n)) (sym bytes) (c.limits_come_last.ensures.code fold text t coded.checked coded.framed.none_large large)

@@ -1,5 +1,4 @@
-use Rattle.std.proofs.Common.{◌++◌, sym, ap, subst, ◌∙◌}
-use Rattle.std.proofs.lemmas.List.{append_assoc}
+use Rattle.std.proofs.Common.{sym, ap, subst, ◌∙◌}
 use Rattle.elf_file.specs.Reading.{IsRefusal}
 use Rattle.rv32_emul.specs.Machine.{started}
 use Rattle.std.proofs.lemmas.Result.{IfOk-weaker}

@@ -8,7 +8,7 @@ use Rattle.pareas_core.proofs.response.run.Goals as goal
 pub returns-in-Ok : goal.returns-in-Ok
 returns-in-Ok g c =
     IfOk-weaker c.emulate.result _ _
-    (λ d h. ran_through c.args.steps c.args.source.now c.in-Ok.file.items d c.in-Ok.ensures.image (c.one_verdict.ensures c.args.source.now)
+    (λ d h. ran_through c.args.steps c.args.fold c.args.source.now c.in-Ok.file.items d c.in-Ok.ensures.image (c.one_verdict.ensures c.args.fold c.args.source.now)
     (h ∙ (λ i. due_of_machine (c.new.ensures.items i) (machine (c.deref.ensures.value i) c.args.steps))))
     c.emulate.ensures
 
@@ -16,5 +16,5 @@ pub returns-in-Err : goal.returns-in-Err
 returns-in-Err g c =
     let text = c.args.source.now in
     IfOk-weaker c.refused.result _ _
-    (λ d line. refused _ text text (running no_lines c.args.steps) (by_run c.args.steps text) (c.one_verdict.ensures text) c.in-Err.refusal d c.in-Err.ensures.refused line)
+    (λ d line. refused _ c.args.fold text text (running no_lines c.args.steps) (by_run c.args.steps c.args.fold text) (c.one_verdict.ensures c.args.fold text) c.in-Err.refusal d c.in-Err.ensures.refused line)
     c.refused.ensures

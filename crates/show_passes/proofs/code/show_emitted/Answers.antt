@@ -4,7 +4,8 @@ use Rattle.show_passes.proofs.code.show_emitted.Goals as goal
 
 pub show_program-requires-clause-program : goal.show_program-requires-clause-program
 show_program-requires-clause-program g c κs within =
-    let t = c.requires.framed.0 in
-    let f = c.requires.framed.1 in
-    let k = f.analyzed.checked in
-    (ast t, compilable c.args.source.now c.args.analysis.now c.args.depths.now c.args.frames.now t f (c.numbers_are_small.ensures c.args.source.now t k.tree k.lexical k.shaped))
+    let text = c.args.source.now in
+    let t = c.requires.coded.0 in
+    let f = c.requires.coded.1 in
+    let k = f.checked in
+    (ast t, compilable text c.args.analysis.now.rows c.args.analysis.now.names c.args.depths.now c.args.frames.now t f (c.numbers_are_small.ensures (ast t) k.shaped (c.numbers_are_words.ensures text t k.lexical k.tree)))
