@@ -31,7 +31,7 @@ chunk_drawn chunks n = if nat_lt n chunks then Some n else None
 abbrev pub DrawsAreClaims : Type 0
 DrawsAreClaims =
     (d : Deal) (a : ℕ) (s t : ClaimTable) → Dealt d s
-    → (r : IsStep a 0 ((slice_index s.words 0 + 1) % 2 ^ 64) (slice_index s.words 0) (Draws d.chunks (step 0 0 1 0 none)) s t)
+    → (r : IsStep a 0 ((slice_index s.words 0 + 1) % 2 ^ 64) (slice_index s.words 0) (Draws d.chunks d.seats (step 0 0 1 0 none)) s t)
     → 0 < r.old.share → RunsClaim d.chunks a s (chunk_drawn d.chunks (slice_index s.words 0)) t
 
 abbrev pub FinishesAreDone : Type 0

@@ -9,12 +9,14 @@ use Rattle.chunk_seats.specs.Claims.{claiming, spending, finishing}
 abbrev pub Hand : Type 0
 Hand = Me (Unit {0}) ClaimView
 
--- a draw from a board of k chunks: a chunk that no seat had claimed, or a number behind the last one
-abbrev pub Draws : ℕ → Step (Unit {0}) → Hand → ℕ → Hand → Type 0
-Draws k st m r m' =
+-- a draw from a board of k chunks: a chunk that no seat had claimed, or a number behind the last one, where a seat of the whole weight is seen to have
+-- claimed each of them, once
+abbrev pub Draws : (k seats : ℕ) → Step (Unit {0}) → Hand → ℕ → Hand → Type 0
+Draws k seats st m r m' =
     (m'.1 ≡ m.1)
     × (r < k → (m'.0 ≡ claiming m.0 r) × (times r m.0.claimed ≡ 0) × (length m.0.claimed < k))
     × (k ≤ r → m'.0 ≡ spending m.0)
+    × (k ≤ r → m.0.weight ≡ seats → OnceBelow k (λ n. times n m.0.claimed))
 
 -- the count of the chunk c as done; a spent seat of the whole weight is seen to have claimed each of k chunks, once
 abbrev pub Finishes : (c k seats : ℕ) → Step (Unit {0}) → Hand → ℕ → Hand → Type 0

@@ -30,8 +30,34 @@ once_more k n views id v at under once m =
 later : (d : Deal) (c c' : ℕ) (v : ClaimView) → c ≤ c' → Fits d c v → Fits d c' v
 later d c c' v le f = record { share_is = f.share_is; spent = λ p q. let h = f.spent p q in omega arith; idle = f.idle; within = f.within }
 
+-- what the seat with all the weight knows at the end
+pub ends : (d : Deal) (id : ℕ) (v : ClaimView) (s : St) → Seen (Dealt d) id v s → v.weight ≡ d.seats
+    → OnceBelow (min (get_or s.words 0 0) d.chunks) (λ n. times n v.claimed) × (get_or s.words 1 0 ≡ length v.done)
+ends d id v s seen all =
+    let r = seen.0 in let at = seen.1 in
+    let c : get_or s.words 0 0 ≡ r.counter = ap (λ (ws : List ℕ). get_or ws 0 0) r.words in
+    let f : get_or s.words 1 0 ≡ r.finished = ap (λ (ws : List ℕ). get_or ws 1 0) r.words in
+    let heavy : total (λ (u : ClaimView). u.weight) s.views ≡ v.weight = r.weights ∙ sym all in
+    let dones = total_alone (λ (u : ClaimView). length u.done) (λ (u : ClaimView). u.weight) s.views id v (λ i u e none_left. ap length ((r.each i u e).idle none_left).1) at heavy in (
+      (λ n.
+          let t = total_alone (λ (u : ClaimView). times n u.claimed) (λ (u : ClaimView). u.weight) s.views id v (λ i u e none_left. ap (times n) ((r.each i u e).idle none_left).0) at heavy in
+          let old = r.once n in ((λ h. let was = old.0 (omega arith) in omega arith), λ h. let was = old.1 (omega arith) in omega arith)),
+      omega (arith, r.all_done),
+    )
+
+pub spent_ends : (d : Deal) (id : ℕ) (v : ClaimView) (s : St) → Seen (Dealt d) id v s → 0 < v.weight → v.share ≡ 0 → d.chunks ≤ get_or s.words 0 0
+spent_ends d id v s seen weighs spent =
+    let r = seen.0 in let c : get_or s.words 0 0 ≡ r.counter = ap (λ (ws : List ℕ). get_or ws 0 0) r.words in
+    omega (arith, (r.each id v seen.1).spent weighs spent)
+
+-- a seat with all the weight, where no chunk is left, has claimed each of them
+all_claimed : (d : Deal) (id : ℕ) (v : ClaimView) (s : St) → Seen (Dealt d) id v s → d.chunks ≤ get_or s.words 0 0 → v.weight ≡ d.seats → OnceBelow d.chunks (λ n. times n v.claimed)
+all_claimed d id v s seen drawn all =
+    let is : min (get_or s.words 0 0) d.chunks ≡ d.chunks = omega arith in
+    subst (λ (x : ℕ). OnceBelow x (λ n. times n v.claimed)) is (ends d id v s seen all).0
+
 pub draws : (d : Deal) (slots id : ℕ) (me : Hand) → 0 < me.0.share
-    → Allows (Dealt d) slots id me 0 (λ n. (n + 1) % 18446744073709551616) (Draws d.chunks (step slots 0 1 0 none) me)
+    → Allows (Dealt d) slots id me 0 (λ n. (n + 1) % 18446744073709551616) (Draws d.chunks d.seats (step slots 0 1 0 none) me)
 draws d slots id me unspent s r _ at small =
     let v : ClaimView = me.0 in
     let n : ℕ = r.counter in
@@ -68,7 +94,7 @@ draws d slots id me unspent s r _ at small =
         each = every_set (Fits d (n + 1)) s.views id w (record { share_is = inl refl; spent = λ p q. omega arith; idle = mine.idle; within = mine.within })
             (λ i u e. later d n (n + 1) u (omega arith) (r.each i u e));
       },
-      (refl, (λ h. absurd (omega arith)), λ h. refl),
+      (refl, (λ h. absurd (omega arith)), (λ h. refl), λ h all. all_claimed d id v s (r, at) h all),
     ))
     (λ not_over.
     let under : n < d.chunks = lt_of_not-le not_over in
@@ -103,33 +129,16 @@ draws d slots id me unspent s r _ at small =
       (
         refl,
         (λ h. (ap (claiming v) (sym found), subst (λ (x : ℕ). times x v.claimed ≡ 0) (sym found) (omega arith), omega arith)),
-        λ h. absurd (omega arith),
+        (λ h. absurd (omega arith)),
+        λ h all. absurd (omega arith),
       ),
     ))
 
-pub draws_as : (d : Deal) (slots id : ℕ) (me : Hand) (k : ℕ) → k ≡ d.chunks → 0 < me.0.share
-    → Allows (Dealt d) slots id me 0 (λ n. (n + 1) % 18446744073709551616) (Draws k (step slots 0 1 0 none) me)
-draws_as d slots id me k is unspent = subst (λ (x : ℕ). Allows (Dealt d) slots id me 0 (λ n. (n + 1) % 18446744073709551616) (Draws x (step slots 0 1 0 none) me)) (sym is) (draws d slots id me unspent)
-
--- what the seat with all the weight knows at the end
-pub ends : (d : Deal) (id : ℕ) (v : ClaimView) (s : St) → Seen (Dealt d) id v s → v.weight ≡ d.seats
-    → OnceBelow (min (get_or s.words 0 0) d.chunks) (λ n. times n v.claimed) × (get_or s.words 1 0 ≡ length v.done)
-ends d id v s seen all =
-    let r = seen.0 in let at = seen.1 in
-    let c : get_or s.words 0 0 ≡ r.counter = ap (λ (ws : List ℕ). get_or ws 0 0) r.words in
-    let f : get_or s.words 1 0 ≡ r.finished = ap (λ (ws : List ℕ). get_or ws 1 0) r.words in
-    let heavy : total (λ (u : ClaimView). u.weight) s.views ≡ v.weight = r.weights ∙ sym all in
-    let dones = total_alone (λ (u : ClaimView). length u.done) (λ (u : ClaimView). u.weight) s.views id v (λ i u e none_left. ap length ((r.each i u e).idle none_left).1) at heavy in (
-      (λ n.
-          let t = total_alone (λ (u : ClaimView). times n u.claimed) (λ (u : ClaimView). u.weight) s.views id v (λ i u e none_left. ap (times n) ((r.each i u e).idle none_left).0) at heavy in
-          let old = r.once n in ((λ h. let was = old.0 (omega arith) in omega arith), λ h. let was = old.1 (omega arith) in omega arith)),
-      omega (arith, r.all_done),
-    )
-
-pub spent_ends : (d : Deal) (id : ℕ) (v : ClaimView) (s : St) → Seen (Dealt d) id v s → 0 < v.weight → v.share ≡ 0 → d.chunks ≤ get_or s.words 0 0
-spent_ends d id v s seen weighs spent =
-    let r = seen.0 in let c : get_or s.words 0 0 ≡ r.counter = ap (λ (ws : List ℕ). get_or ws 0 0) r.words in
-    omega (arith, (r.each id v seen.1).spent weighs spent)
+pub draws_as : (d : Deal) (slots id : ℕ) (me : Hand) (chunks seats : ℕ) → chunks ≡ d.chunks → seats ≡ d.seats → 0 < me.0.share
+    → Allows (Dealt d) slots id me 0 (λ n. (n + 1) % 18446744073709551616) (Draws chunks seats (step slots 0 1 0 none) me)
+draws_as d slots id me chunks seats is_k is_s unspent =
+    subst (λ (x : ℕ). Allows (Dealt d) slots id me 0 (λ n. (n + 1) % 18446744073709551616) (Draws x seats (step slots 0 1 0 none) me)) (sym is_k)
+    (subst (λ (y : ℕ). Allows (Dealt d) slots id me 0 (λ n. (n + 1) % 18446744073709551616) (Draws d.chunks y (step slots 0 1 0 none) me)) (sym is_s) (draws d slots id me unspent))
 
 pub finishes : (d : Deal) (slots id : ℕ) (me : Hand) (c : ℕ) → 0 < times c me.0.claimed → times c me.0.done ≡ 0 → 0 < me.0.weight
     → Allows (Dealt d) slots id me 1 (λ n. (n + 1) % 18446744073709551616) (Finishes c d.chunks d.seats (step slots 1 1 0 none) me)
@@ -170,9 +179,7 @@ finishes d slots id me c there undone weighs s r _ at small =
       (
         refl,
         refl,
-        λ all spent.
-            let all_drawn : min (get_or s.words 0 0) d.chunks ≡ d.chunks = (let drawn = spent_ends d id v s (r, at) weighs spent in omega arith) in
-            subst (λ (x : ℕ). OnceBelow x (λ n. times n v.claimed)) all_drawn (ends d id v s (r, at) all).0,
+        λ all spent. all_claimed d id v s (r, at) (spent_ends d id v s (r, at) weighs spent) all,
       ),
     )
 
