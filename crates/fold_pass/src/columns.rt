@@ -1,8 +1,8 @@
 //! Reading columns of rows.
 ghost use Rattle.std.specs.Prelude.{◌≡◌, slice_index_or, None};
-ghost use Rattle.source_meaning.specs.declared.kinds.Kind.TheVariants.{Program};
-ghost use Rattle.folded_rows.specs.Columns.{kind_in, left_of, number_in, right_of, value_in};
+ghost use Rattle.folded_rows.specs.Columns.{kind_in, left_of, right_of, value_in};
 
+use ast_rows::reading::{kind, number};
 use source_meaning::Kind;
 use std::marker::Model;
 
@@ -35,7 +35,7 @@ impl RowColumns<'_> {
     pub(crate) fn kind(&self, k: u32) -> Kind
         ensures { result ≡ kind_in self.now k }
     {
-        self.kinds.get(k as usize).copied().unwrap_or(Kind::Program)
+        kind(self.kinds, k)
     }
 
     /// The last child of a row that has children.
@@ -51,13 +51,6 @@ impl RowColumns<'_> {
     {
         number(self.lows, k.saturating_sub(1)).saturating_sub(1)
     }
-}
-
-/// The number of a row in a column; where there is none, 0.
-pub(crate) fn number(column: &[u32], k: u32) -> u32
-    ensures { result ≡ number_in column.now k }
-{
-    column.get(k as usize).copied().unwrap_or(0)
 }
 
 /// The constant that a row is known to be; where there is no row, none.

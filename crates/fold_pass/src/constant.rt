@@ -4,8 +4,7 @@ ghost use Rattle.folded_rows.specs.Columns.{and_of, constant_by, is_literal as i
 ghost use Rattle.fold_pass.specs.Rounds.{constant_at};
 
 use crate::columns::{RowColumns, value};
-use crate::operators::{apply_binary, apply_unary};
-use source_meaning::Kind;
+use source_meaning::{Kind, apply_binary, apply_unary};
 
 // An And, by its sides: 0 decides it.
 fn constant_and(left: Option<u32>, right: Option<u32>) -> Option<u32>

@@ -5,7 +5,8 @@ ghost use Rattle.source_meaning.specs.Typing.{binary_type, group_of, unary_opera
 ghost use Rattle.folded_rows.specs.Columns.{constant_kind, kind_by, kind_in, number_in, value_in};
 ghost use Rattle.fold_pass.specs.Folded.{rank_in, settled_by, word_by};
 
-use crate::columns::{RowColumns, number, value};
+use crate::columns::{RowColumns, value};
+use ast_rows::reading::number;
 use par_passes::Passes;
 use source_meaning::{BinaryOp, Kind, UnaryOp, ValueType};
 use std::alloc::AllocError;

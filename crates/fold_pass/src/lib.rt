@@ -7,7 +7,6 @@ mod complete;
 mod constant;
 mod folded;
 mod kin;
-mod operators;
 mod pass;
 mod rounds;
 mod staying;

@@ -5,8 +5,9 @@ ghost use Rattle.folded_rows.specs.Columns.{AreConstants, constant_by, is_litera
 ghost use Rattle.folded_rows.specs.Levels.{AreLinked};
 ghost use Rattle.fold_pass.specs.Rounds.{AreTold, IsBounded, constant_at, known_after, told_by};
 
-use crate::columns::{RowColumns, number, value};
+use crate::columns::{RowColumns, value};
 use crate::constant::{constant_here, is_literal, leaf_constant};
+use ast_rows::reading::number;
 use par_passes::Passes;
 use scan_lookback::Steps;
 use source_meaning::Kind;

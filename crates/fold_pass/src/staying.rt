@@ -6,7 +6,8 @@ ghost use Rattle.word_monoid.specs.Instances.{count};
 ghost use Rattle.folded_rows.specs.Columns.{gives_way, gives_way_by, is_bare, is_dropped, span};
 ghost use Rattle.fold_pass.specs.Staying.{AreStaying, bit, reaches_of, spans_of, stays_by};
 
-use crate::columns::{RowColumns, number, value};
+use crate::columns::{RowColumns, value};
+use ast_rows::reading::number;
 use par_passes::{Lift, Passes};
 use source_meaning::Kind;
 use std::alloc::AllocError;

@@ -6,10 +6,9 @@ ghost use Rattle.tree_interpreter.specs.Walking.{Gives, EvaluatesThen, Evaluates
 ghost use Rattle.tree_interpreter.specs.declared.rests.Rest.TheVariants.{Binary as Applied, Right as RightSide};
 
 use crate::interpreter::{Stop, Walker};
-use crate::operators::apply_binary;
 use crate::rests::Rest;
 use crate::trees::Expr;
-use source_meaning::BinaryOp;
+use source_meaning::{BinaryOp, apply_binary};
 
 impl<'a> Walker<'a> {
     /// Goes on with a value.

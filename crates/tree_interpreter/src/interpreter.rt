@@ -10,10 +10,10 @@ ghost use Rattle.tree_interpreter.specs.Walking.{program_in, meant, Resumes, IsS
 
 use crate::callees::{Callee, callees_of};
 use crate::names::Names;
-use crate::operators::{apply_binary, apply_unary};
 use crate::rests::{OpenCall, Rest, Rests};
 use crate::simple::store;
 use crate::trees::Program;
+use source_meaning::{apply_binary, apply_unary};
 use std::alloc::{AllocError, AllocFailed, Global};
 
 /// Numbers that were printed, in order.

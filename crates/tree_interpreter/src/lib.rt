@@ -8,7 +8,6 @@ mod frames;
 mod interpreter;
 mod names;
 mod numbering;
-mod operators;
 mod parts;
 mod rests;
 mod simple;

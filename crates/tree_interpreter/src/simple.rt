@@ -9,9 +9,9 @@ ghost use Rattle.tree_interpreter.specs.Weights.{stmts_weight};
 ghost use Rattle.tree_interpreter.specs.Walking.{HasValue, Leaves, Leads, Puts};
 
 use crate::numbering::parts_of;
-use crate::operators::{apply_binary, apply_unary};
 use crate::rests::{OpenCall, PlacedAll};
 use crate::trees::{Args, Expr, Stmt, Stmts};
+use source_meaning::{apply_binary, apply_unary};
 use std::alloc::AllocError;
 
 /// A variable's value, 0 where there is none.

@@ -243,7 +243,7 @@ numbers_there (r ∷ rs) i before n whole e = (
     moved [] y ys = refl
     moved (x ∷ xs) y ys = ap (λ (l : List ℕ). x ∷ l) (moved xs y ys)
 
-parents_many : (rs : List Row) (i : ℕ) → length (parent_numbers i rs) ≡ length rs
+pub parents_many : (rs : List Row) (i : ℕ) → length (parent_numbers i rs) ≡ length rs
 parents_many [] i = refl
 parents_many (r ∷ rs) i = ap suc (parents_many rs (i + 1))
 

@@ -9,11 +9,10 @@ use Rattle.source_meaning.specs.Ast.{Expr, num, truth, name, call, unary, binary
 use Rattle.source_meaning.specs.Rows.{Row, Node, node, Nodes, last, next, nodes_rows, expr_node, args_nodes, stmt_node, stmts_nodes, params_nodes, one, functions_nodes, post}
 use Rattle.ast_rows.specs.NodeRows.{low_at, parent_numbers}
 use Rattle.ast_rows.specs.Subtrees.{nodes_lows}
-use Rattle.ast_rows.specs.Laws.Subtrees.{lows_told}
+use Rattle.ast_rows.specs.Laws.Subtrees.{lows_told, parents_many}
 use Rattle.row_rules.specs.Visible.{no_row, row_at}
 use Rattle.row_rules.specs.Steps.{parent_kind}
 use Rattle.code_rules.specs.PieceRules.{is_operator}
-use Rattle.rv_select.specs.Laws.OfProgram.{parents_many}
 
 no_true : ◌≡◌ {A = Bool} false true → ⊥
 no_true h = cc
