@@ -58,6 +58,8 @@ IsRefusedBy fold text (Diagnostic code at) = IsVerdict fold text (Diagnosed code
 IsRefusedBy fold text (Limit code at bytes) = IsVerdict fold text (Limited code at bytes)
 IsRefusedBy fold text NoMemory = Unit {0}
 
--- the refusal is what the compiler says of the source in both cases
+-- the refusal is what the compiler says of the source in both cases; the only limit is that of the source's bytes
 abbrev pub IsRefused : List ℕ → Refusal → Type 0
-IsRefused text r = (fold : Bool) → IsRefusedBy fold text r
+IsRefused text (Diagnostic code at) = (fold : Bool) → IsVerdict fold text (Diagnosed code at)
+IsRefused text (Limit code at bytes) = (code ≡ 601) × ((fold : Bool) → IsVerdict fold text (Limited code at bytes))
+IsRefused text NoMemory = Unit {0}

@@ -1,5 +1,5 @@
 //! What is known of a source before its code is made.
-ghost use Rattle.std.specs.Prelude.{◌≤◌, length, IfOk, IfErr};
+ghost use Rattle.std.specs.Prelude.{◌≤◌, length, IfOk, IfErr, OnOk};
 ghost use Rattle.limits.specs.Limits.{most_source};
 ghost use Rattle.grammar_file.specs.Spelling.{IsReduced};
 ghost use Rattle.llp_tables.specs.EntryTable.{AreTablesOf};
@@ -100,21 +100,26 @@ fn tables_and_tokens<C: Passes>(crew: &C, source: &[u8]) -> Result<(Tables, Toke
     Ok((tables, tokens))
 }
 
-// The phases of a source that isn't too large.
-fn parts(crew: &impl Passes, source: &[u8]) -> Result<Analysis, Refusal>
-    requires fits { length source.now ≤ most_source }
+// The phases behind the tokens.
+fn behind_tokens(
+    crew: &impl Passes,
+    tables: &Tables,
+    source: &[u8],
+    tokens: Tokens,
+) -> Result<Analysis, Refusal>
+    requires tables { AreTablesOf grammar tables.now }
+    requires reduced { IsReduced grammar }
+    requires lexed { AreTokens source.now tokens }
     ensures ok { IfOk result (λ f. (t : Tree Prog) × IsAnalysis source.now t f) }
     ensures refused { IfErr result (IsRefused source.now) }
 {
-    let (tables, tokens) = tables_and_tokens(crew, source)?;
-    let rows = tree(crew, &tables, source, &tokens)?;
+    let rows = tree(crew, tables, source, &tokens)?;
     meant(crew, source, tokens, rows)
 }
 
-/// The tokens, rows, names and types of a source that has no diagnostic of the phases up to types; or its first diagnostic, where it has
-/// one, or the limit of a source's bytes. They are the same for every plan and gate. The only other refusal is that memory is out.
-pub fn front(crew: &impl Passes, source: &[u8]) -> Result<Analysis, Refusal>
-    ensures ok { IfOk result (λ f. (t : Tree Prog) × IsAnalysis source.now t f) }
+// The limit of a source's bytes.
+fn check_size(source: &[u8]) -> Result<(), Refusal>
+    ensures fits { OnOk result (length source.now ≤ most_source) }
     ensures refused { IfErr result (IsRefused source.now) }
 {
     if source.len() > MOST_SOURCE {
@@ -124,5 +129,28 @@ pub fn front(crew: &impl Passes, source: &[u8]) -> Result<Analysis, Refusal>
             bytes: source.len() as u64,
         });
     }
-    parts(crew, source)
+    Ok(())
+}
+
+/// The tokens, rows, names and types of a source that has no diagnostic of the phases up to types; or its first diagnostic, where it has
+/// one, or the limit of a source's bytes. They are the same for every plan and gate. The only other refusal is that memory is out.
+pub fn front(crew: &impl Passes, source: &[u8]) -> Result<Analysis, Refusal>
+    ensures ok { IfOk result (λ f. (t : Tree Prog) × IsAnalysis source.now t f) }
+    ensures refused { IfErr result (IsRefused source.now) }
+{
+    check_size(source)?;
+    let (tables, tokens) = tables_and_tokens(crew, source)?;
+    behind_tokens(crew, &tables, source, tokens)
+}
+
+/// The same as [`front`], by the language's parse tables, which one call of [`language_tables`] makes for many sources.
+pub fn front_by(crew: &impl Passes, tables: &Tables, source: &[u8]) -> Result<Analysis, Refusal>
+    requires tables { AreTablesOf grammar tables.now }
+    requires reduced { IsReduced grammar }
+    ensures ok { IfOk result (λ f. (t : Tree Prog) × IsAnalysis source.now t f) }
+    ensures refused { IfErr result (IsRefused source.now) }
+{
+    check_size(source)?;
+    let tokens = lexed(crew, source)?;
+    behind_tokens(crew, tables, source, tokens)
 }

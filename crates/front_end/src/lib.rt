@@ -9,7 +9,7 @@ mod refusal;
 mod tables;
 mod words;
 
-pub use analysis::{Analysis, front};
+pub use analysis::{Analysis, front, front_by};
 pub use laws::limits_come_last;
 pub use phases::{lexed, named, parsed, shaped, typed};
 pub use places::place;
