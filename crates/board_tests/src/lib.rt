@@ -20,6 +20,8 @@ mod schedules;
 #[cfg(test)]
 mod status_boards;
 #[cfg(test)]
+mod teams;
+#[cfg(test)]
 mod workers;
 #[cfg(test)]
 mod works;

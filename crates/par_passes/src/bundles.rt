@@ -9,8 +9,9 @@ use chunk_seats::{ClaimBoard, Crew};
 use scan_lookback::by_number;
 use std::alloc::{AllocError, Global};
 
-// The bundles by their numbers, of which each below the count stands once among the pairs.
-fn in_order<B: Drop>(
+/// What stands beside the numbers, in their order: each number below the count stands once among the pairs. The only refusal is that memory
+/// is out.
+pub fn in_order<B: Drop>(
     alloc: Global,
     count: usize,
     pairs: Vec<(u64, B)>,

@@ -14,6 +14,7 @@ mod order;
 mod passes;
 mod places;
 
+pub use bundles::in_order;
 pub use chunk_seats::{Crew, Workers};
 pub use passes::Passes;
 pub use scan_lookback::{Lift, Lifted};
