@@ -6,7 +6,7 @@ use Rattle.std.specs.Result.{IsOk}
 use Rattle.std.specs.Str.Parse.{ParsesUnsigned, digits_value, without_leading_plus}
 use Rattle.clap.specs.Values.{IsUnsignedIn}
 use Rattle.clap.specs.Walk.{Text, Row}
-use Rattle.command_line.specs.Ranges.{HasPlan, HasText, HasNumbers, of_build, of_run, of_emu, of_dump, of_asm, of_table, of_drill}
+use Rattle.command_line.specs.Ranges.{HasPlan, HasText, HasNumbers, of_build, of_run, of_batch, of_emu, of_dump, of_asm, of_table, of_drill}
 
 pub shown : {X Y : Type 0} (f : X → Y) (o : Option X) (y : Y) → option_map f o ≡ Some y → (x : X) × (o ≡ Some x) × (f x ≡ y)
 shown f None y h = cc
@@ -51,17 +51,12 @@ a_is_not_r e = absurd (omega arith)
 pub run_plan : (rows : List Row) (name : Text) → HasNumbers rows name → name ≡ codes "run" → HasPlan rows
 run_plan rows name (of_build plan) e = absurd (five_is_not_three (ap length e))
 run_plan rows name (of_run plan steps) e = plan
+run_plan rows name (of_batch plan) e = absurd (five_is_not_three (ap length e))
 run_plan rows name (of_emu steps) e = absurd (e_is_not_r (ap (λ (t : Text). slice_index t 0) e))
 run_plan rows name of_dump e = absurd (four_is_not_three (ap length e))
 run_plan rows name of_asm e = absurd (a_is_not_r (ap (λ (t : Text). slice_index t 0) e))
 run_plan rows name of_table e = absurd (five_is_not_three (ap length e))
 run_plan rows name (of_drill text plan) e = absurd (five_is_not_three (ap length e))
-
-b_is_not_d : ◌≡◌ {A = ℕ} 98 100 → ⊥
-b_is_not_d e = absurd (omega arith)
-
-t_is_not_d : ◌≡◌ {A = ℕ} 116 100 → ⊥
-t_is_not_d e = absurd (omega arith)
 
 three_is_not_five : ◌≡◌ {A = ℕ} 3 5 → ⊥
 three_is_not_five e = absurd (omega arith)
@@ -69,9 +64,35 @@ three_is_not_five e = absurd (omega arith)
 four_is_not_five : ◌≡◌ {A = ℕ} 4 5 → ⊥
 four_is_not_five e = absurd (omega arith)
 
+u_is_not_a : ◌≡◌ {A = ℕ} 117 97 → ⊥
+u_is_not_a e = absurd (omega arith)
+
+d_is_not_b : ◌≡◌ {A = ℕ} 100 98 → ⊥
+d_is_not_b e = absurd (omega arith)
+
+t_is_not_b : ◌≡◌ {A = ℕ} 116 98 → ⊥
+t_is_not_b e = absurd (omega arith)
+
+pub batch_plan : (rows : List Row) (name : Text) → HasNumbers rows name → name ≡ codes "batch" → HasPlan rows
+batch_plan rows name (of_build plan) e = absurd (u_is_not_a (ap (λ (t : Text). slice_index t 1) e))
+batch_plan rows name (of_run plan steps) e = absurd (three_is_not_five (ap length e))
+batch_plan rows name (of_batch plan) e = plan
+batch_plan rows name (of_emu steps) e = absurd (three_is_not_five (ap length e))
+batch_plan rows name of_dump e = absurd (four_is_not_five (ap length e))
+batch_plan rows name of_asm e = absurd (three_is_not_five (ap length e))
+batch_plan rows name of_table e = absurd (t_is_not_b (ap (λ (t : Text). slice_index t 0) e))
+batch_plan rows name (of_drill text plan) e = absurd (d_is_not_b (ap (λ (t : Text). slice_index t 0) e))
+
+b_is_not_d : ◌≡◌ {A = ℕ} 98 100 → ⊥
+b_is_not_d e = absurd (omega arith)
+
+t_is_not_d : ◌≡◌ {A = ℕ} 116 100 → ⊥
+t_is_not_d e = absurd (omega arith)
+
 pub drill_numbers : (rows : List Row) (name : Text) → HasNumbers rows name → name ≡ codes "drill" → HasText rows × HasPlan rows
 drill_numbers rows name (of_build plan) e = absurd (b_is_not_d (ap (λ (t : Text). slice_index t 0) e))
 drill_numbers rows name (of_run plan steps) e = absurd (three_is_not_five (ap length e))
+drill_numbers rows name (of_batch plan) e = absurd (b_is_not_d (ap (λ (t : Text). slice_index t 0) e))
 drill_numbers rows name (of_emu steps) e = absurd (three_is_not_five (ap length e))
 drill_numbers rows name of_dump e = absurd (four_is_not_five (ap length e))
 drill_numbers rows name of_asm e = absurd (three_is_not_five (ap length e))

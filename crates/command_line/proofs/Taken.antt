@@ -14,7 +14,7 @@ use Rattle.clap.specs.Walk.{Text, Rule, Row, Held, Names, Outcome, done, waits, 
 use Rattle.clap.specs.Faults.{walk_fault, turn_fault, word_fault, other_fault, step_fault, settle_fault, defaults_fault, check_fault, level_fault, entered_fault, built_fault, fault_of}
 use Rattle.clap.proofs.ValueTestLemmas.{accepts-Accepts}
 use Rattle.command_line.specs.Words.{app, value_option, with_default, required, workers_option, chunk_option, steps_option, fold_option, seed_option, functions_option}
-use Rattle.command_line.specs.Ranges.{HasNumber, HasPlan, HasSteps, HasText, HasNumbers, of_build, of_run, of_emu, of_dump, of_asm, of_table, of_drill}
+use Rattle.command_line.specs.Ranges.{HasNumber, HasPlan, HasSteps, HasText, HasNumbers, of_build, of_run, of_batch, of_emu, of_dump, of_asm, of_table, of_drill}
 use Rattle.command_line.proofs.Rows.{both_none, AreOptions, IsOption}
 use Rattle.command_line.proofs.Levels.{IsThere, here, wanted, later, level_value}
 
@@ -202,10 +202,13 @@ plan_options = (workers_is, (chunk_is, (fold_is, (inr (inr refl), tt))))
 run_options : AreOptions tested (built_sub 1).rules
 run_options = (workers_is, (chunk_is, (steps_is, (fold_is, (inr (inr refl), tt)))))
 
-emu_options : AreOptions tested (built_sub 2).rules
+batch_options : AreOptions tested (built_sub 2).rules
+batch_options = (workers_is, (chunk_is, (inr (inr refl), tt)))
+
+emu_options : AreOptions tested (built_sub 3).rules
 emu_options = (steps_is, (inr (inr refl), tt))
 
-drill_options : AreOptions tested (built_sub 6).rules
+drill_options : AreOptions tested (built_sub 7).rules
 drill_options = (seed_is, (functions_is, (workers_is, (chunk_is, (inr (inr refl), tt)))))
 
 build_takes : (word : Text) → Takes word (built_sub 0)
@@ -216,26 +219,29 @@ run_takes word words e f =
     of_run (plan_of_words (built_sub 1) words run_options (here _ refl refl) (later (here _ refl refl)) f)
     (steps_of_words (built_sub 1) words run_options (later (later (here _ refl refl))) f)
 
-emu_takes : (word : Text) → Takes word (built_sub 2)
-emu_takes word words e f = of_emu (steps_of_words (built_sub 2) words emu_options (here _ refl refl) f)
+batch_takes : (word : Text) → Takes word (built_sub 2)
+batch_takes word words e f = of_batch (plan_of_words (built_sub 2) words batch_options (here _ refl refl) (later (here _ refl refl)) f)
 
-dump_takes : (word : Text) → Takes word (built_sub 3)
+emu_takes : (word : Text) → Takes word (built_sub 3)
+emu_takes word words e f = of_emu (steps_of_words (built_sub 3) words emu_options (here _ refl refl) f)
+
+dump_takes : (word : Text) → Takes word (built_sub 4)
 dump_takes word words e f = of_dump
 
-asm_takes : (word : Text) → Takes word (built_sub 4)
+asm_takes : (word : Text) → Takes word (built_sub 5)
 asm_takes word words e f = of_asm
 
-table_takes : (word : Text) → Takes word (built_sub 5)
+table_takes : (word : Text) → Takes word (built_sub 6)
 table_takes word words e f = of_table
 
-drill_takes : (word : Text) → Takes word (built_sub 6)
+drill_takes : (word : Text) → Takes word (built_sub 7)
 drill_takes word words e f =
-    of_drill (text_of_words (built_sub 6) words drill_options (wanted refl refl) (later (wanted refl refl)) f)
-    (plan_of_words (built_sub 6) words drill_options (later (later (here _ refl refl))) (later (later (later (here _ refl refl)))) f)
+    of_drill (text_of_words (built_sub 7) words drill_options (wanted refl refl) (later (wanted refl refl)) f)
+    (plan_of_words (built_sub 7) words drill_options (later (later (here _ refl refl))) (later (later (later (here _ refl refl)))) f)
 
 all_take : (word : Text) → bytes_eq word (codes "help") ≡ false → AllShapes (Takes word) (built app).subs
 all_take word other =
-    (build_takes word, (run_takes word, (emu_takes word, (dump_takes word, (asm_takes word, (table_takes word, (drill_takes word, ((λ words e f. absurd (help_asked word other e)), tt))))))))
+    (build_takes word, (run_takes word, (batch_takes word, (emu_takes word, (dump_takes word, (asm_takes word, (table_takes word, (drill_takes word, ((λ words e f. absurd (help_asked word other e)), tt)))))))))
 
 -- a subcommand is required
 entered_one : (rows : List Row) (has : Bool) → check_fault (built app).top rows has ≡ [] → has ≡ true

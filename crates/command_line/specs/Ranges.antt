@@ -22,6 +22,7 @@ HasText rows = HasNumber (codes "seed") 0 4294967295 rows × HasNumber (codes "f
 pub data HasNumbers (rows : List Row) : Text → Type 0 where
   of_build : HasPlan rows → HasNumbers rows (codes "build")
   of_run : HasPlan rows → HasSteps rows → HasNumbers rows (codes "run")
+  of_batch : HasPlan rows → HasNumbers rows (codes "batch")
   of_emu : HasSteps rows → HasNumbers rows (codes "emu")
   of_dump : HasNumbers rows (codes "dump")
   of_asm : HasNumbers rows (codes "asm")

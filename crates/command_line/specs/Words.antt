@@ -9,7 +9,7 @@ use Rattle.clap.specs.declared.builder.action.ArgAction.TheVariants.{Set, SetTru
 use Rattle.clap.specs.declared.builder.value_parser.ValueParser.{ValueParser}
 use Rattle.clap.specs.declared.builder.value_parser.ValueParser.TheVariants as parsers
 use Rattle.command_line.specs.declared.command.Command.{Command}
-use Rattle.command_line.specs.declared.command.Command.TheVariants.{Build, Run, Emu, Dump, Asm, Table, Drill}
+use Rattle.command_line.specs.declared.command.Command.TheVariants.{Build, Run, Batch, Emu, Dump, Asm, Table, Drill}
 
 -- ---- the command
 
@@ -60,6 +60,9 @@ build_shape = subcommand (codes "build") (workers_option ∷ chunk_option ∷ fo
 abbrev pub run_shape : Shape
 run_shape = subcommand (codes "run") (workers_option ∷ chunk_option ∷ steps_option ∷ fold_option ∷ [])
 
+abbrev pub batch_shape : Shape
+batch_shape = subcommand (codes "batch") (workers_option ∷ chunk_option ∷ [])
+
 abbrev pub emu_shape : Shape
 emu_shape = subcommand (codes "emu") (steps_option ∷ [])
 
@@ -86,7 +89,7 @@ bare_app = record {
 abbrev pub app : App
 app = record {
   top = record bare_app.top { is_leaf = false };
-  subs = build_shape ∷ run_shape ∷ emu_shape ∷ dump_shape ∷ asm_shape ∷ table_shape ∷ drill_shape ∷ [];
+  subs = build_shape ∷ run_shape ∷ batch_shape ∷ emu_shape ∷ dump_shape ∷ asm_shape ∷ table_shape ∷ drill_shape ∷ [];
 }
 
 -- ---- what words ask for
@@ -114,6 +117,7 @@ abbrev pub asked_by : Text → List Row → Asked
 asked_by name rows =
     if bytes_eq name (codes "build") then shared_out (Build (flag_at (codes "fold") rows)) rows
     else if bytes_eq name (codes "run") then shared_out (Run (number_at (codes "steps") rows) (flag_at (codes "fold") rows)) rows
+    else if bytes_eq name (codes "batch") then shared_out Batch rows
     else if bytes_eq name (codes "emu") then record { command = Emu (number_at (codes "steps") rows); workers = 1; chunk = 1 }
     else if bytes_eq name (codes "dump") then record { command = Dump; workers = 1; chunk = 1 }
     else if bytes_eq name (codes "asm") then record { command = Asm; workers = 1; chunk = 1 }

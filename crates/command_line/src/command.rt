@@ -17,6 +17,8 @@ pub enum Command {
         /// Whether the constants of the program are folded.
         fold: bool,
     },
+    /// Compiles each of the sources on the input, which stand there as records, and writes an answer for each.
+    Batch,
     /// Runs the executable file on the input on the machine for at most `steps` steps.
     Emu {
         /// The most steps.

@@ -1,7 +1,7 @@
 //! What the definitions say of words.
 ghost use Rattle.std.specs.Prelude.{◌≡◌, ℕ, List, [], ◌∷◌, Some, None, true, false, codes};
 ghost use Rattle.clap.specs.Words.{fault_of};
-ghost use Rattle.command_line.specs.declared.command.Command.TheVariants.{Build, Run, Emu, Dump, Asm, Table, Drill};
+ghost use Rattle.command_line.specs.declared.command.Command.TheVariants.{Build, Run, Batch, Emu, Dump, Asm, Table, Drill};
 ghost use Rattle.command_line.specs.Words.{Asked, app, asked};
 
 /// Words in which `clap` finds no fault ask for something.
@@ -18,6 +18,9 @@ pub fn worked_words()
     ensures fold_valued { asked (codes "pareas" ∷ codes "build" ∷ codes "--fold=true" ∷ []) ≡ None }
     ensures fold_elsewhere { asked (codes "pareas" ∷ codes "emu" ∷ codes "--fold" ∷ []) ≡ None }
     ensures options { asked (codes "pareas" ∷ codes "run" ∷ codes "--steps=14" ∷ codes "--workers" ∷ codes "64" ∷ []) ≡ Some (record { command = Run 14 false; workers = 64; chunk = 1024 }) }
+    ensures batch { asked (codes "pareas" ∷ codes "batch" ∷ []) ≡ Some (record { command = Batch; workers = 4; chunk = 1024 }) }
+    ensures batch_options { asked (codes "pareas" ∷ codes "batch" ∷ codes "--chunk" ∷ codes "1" ∷ codes "--workers=2" ∷ []) ≡ Some (record { command = Batch; workers = 2; chunk = 1 }) }
+    ensures fold_batch { asked (codes "pareas" ∷ codes "batch" ∷ codes "--fold" ∷ []) ≡ None }
     ensures emu { asked (codes "pareas" ∷ codes "emu" ∷ []) ≡ Some (record { command = Emu 1000000; workers = 1; chunk = 1 }) }
     ensures dump { asked (codes "pareas" ∷ codes "dump" ∷ []) ≡ Some (record { command = Dump; workers = 1; chunk = 1 }) }
     ensures asm { asked (codes "pareas" ∷ codes "asm" ∷ []) ≡ Some (record { command = Asm; workers = 1; chunk = 1 }) }

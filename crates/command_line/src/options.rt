@@ -3,7 +3,7 @@
 
 ghost use Rattle.std.specs.Prelude.{◌≡◌, IfOk, false};
 ghost use Rattle.clap.specs.Words.{app_of, rule_of, shape_of};
-ghost use Rattle.command_line.specs.Words.{app, bare_app, build_shape, run_shape, emu_shape, dump_shape, asm_shape, table_shape, drill_shape, workers_option, chunk_option, steps_option, fold_option, seed_option, functions_option, word_option, value_option, with_default, required};
+ghost use Rattle.command_line.specs.Words.{app, bare_app, build_shape, run_shape, batch_shape, emu_shape, dump_shape, asm_shape, table_shape, drill_shape, workers_option, chunk_option, steps_option, fold_option, seed_option, functions_option, word_option, value_option, with_default, required};
 
 use clap::builder::ValueParser;
 use clap::{Arg, ArgAction, Command, value_parser};
@@ -148,6 +148,18 @@ fn run<'a>(alloc: Global) -> Result<Command<'a>, AllocError>
 }
 
 #[inline(never)]
+fn batch<'a>(alloc: Global) -> Result<Command<'a>, AllocError>
+    ensures { IfOk result (λ c. shape_of c ≡ batch_shape) }
+{
+    Command::new(alloc, "batch")
+        .about(
+            "Compiles many programs: sources on standard input, each behind its length, an ELF file or a diagnostic for each on standard output",
+        )
+        .arg(workers(alloc))?
+        .arg(chunk(alloc))
+}
+
+#[inline(never)]
 fn emu<'a>(alloc: Global) -> Result<Command<'a>, AllocError>
     ensures { IfOk result (λ c. shape_of c ≡ emu_shape) }
 {
@@ -222,6 +234,7 @@ pub(crate) fn command<'a>(alloc: Global) -> Result<Command<'a>, AllocError>
     bare(alloc)
         .subcommand(build(alloc)?)?
         .subcommand(run(alloc)?)?
+        .subcommand(batch(alloc)?)?
         .subcommand(emu(alloc)?)?
         .subcommand(dump(alloc))?
         .subcommand(asm(alloc))?

@@ -99,6 +99,10 @@ fn request(alloc: Global, name: &str, options: &ArgMatches<'_>) -> Result<Reques
             },
             plan: plan(options),
         },
+        "batch" => Request {
+            command: Command::Batch,
+            plan: plan(options),
+        },
         "emu" => Request {
             command: Command::Emu {
                 steps: number(options, "steps"),

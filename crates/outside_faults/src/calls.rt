@@ -32,6 +32,12 @@ pub const RESULTS: &[(&[&str], &[u8], u64, &[u8])] = &[
         b"terminals 2\nnonterminals 1\nproductions 2\nentries 6\nparse 1 2\n",
     ),
     (
+        &["batch"],
+        b"\0\0\0\0",
+        2,
+        b"\x01\x11\0\0\0error 405 at 1:1\n",
+    ),
+    (
         &["drill", "--seed", "1", "--functions", "1"],
         SEVEN,
         0,

@@ -1,5 +1,8 @@
 pub mod Appending
-pub mod Meeting
+pub mod Batched
+mod Dealt
+mod Meeting
+mod Answering
 pub mod Chosen
 pub mod MemoryReads
 pub mod FaultLine

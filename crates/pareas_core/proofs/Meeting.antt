@@ -22,10 +22,11 @@ use Rattle.simulation.specs.Behaves.{Behaves, IsFaulty, Overruns}
 use Rattle.table_text.specs.Answers.{IsTableAnswer}
 use Rattle.table_text.specs.declared.answer.TableAnswer.{TableAnswer}
 use Rattle.table_text.specs.declared.answer.TableAnswer.TheVariants as answers
-use Rattle.pareas_core.specs.Output.{Due, done, due_of_verdict, due_of_machine, due_of_dump, due_of_asm, due_of_drill, drill_lines, drill_steps, due_of_table, status_of, IsDue, built, ran, emulated, listed, assembled, tabled, drilled}
+use Rattle.pareas_core.specs.Output.{Due, done, due_of_verdict, due_of_machine, due_of_dump, due_of_asm, due_of_drill, drill_lines, drill_steps, due_of_table, status_of, IsDue, built, ran, batched, bad_batch, emulated, listed, assembled, tabled, drilled}
 use Rattle.pareas_core.specs.Reading.{WritesPrefix}
 use Rattle.pareas_core.specs.Headline.{CompilesTo, RunsAs, Runs, what_was_read, what_was_made, HasRun, reads, read_by, End, HasFailed, HasWorked, GotPrefix, IsWritten, IsAnswer, MeetsWords}
 use Rattle.pareas_core.specs.Responses.{HasRead, IsToldOf, IsResponse, IsDelivered, whole, broken_off}
+use Rattle.pareas_core.proofs.Batched.{image_compiled}
 
 -- ---- what is due
 
@@ -290,6 +291,7 @@ IsOutcome statuses.BadImage = Unit {0}
 IsOutcome statuses.Conflict = Unit {0}
 IsOutcome statuses.BadGrammar = Unit {0}
 IsOutcome statuses.BadAsm = Unit {0}
+IsOutcome statuses.BadBatch = Unit {0}
 IsOutcome s = ⊥
 
 course_outcome : (o : Outcome) → IsOutcome (status_of o)
@@ -336,6 +338,8 @@ outcome _ bytes _ (ran {steps = steps} {v = v} is) = verdict_outcome (running no
 outcome _ bytes _ (drilled {seed = seed} {functions = functions} {v = v} is) =
     let text = drill_text seed functions in
     verdict_outcome (running (drill_lines text) drill_steps) text v (running_outcome (drill_lines text) drill_steps)
+outcome _ bytes _ (batched is answers) = tt
+outcome _ bytes _ (bad_batch is) = tt
 outcome _ bytes _ (emulated {steps = steps}) = machine_outcome [] (machine bytes steps)
 outcome _ bytes _ listed = dump_outcome (dumped bytes)
 outcome _ bytes _ assembled = asm_outcome (file_of_text bytes)
@@ -361,7 +365,8 @@ same_command words c d e f = let both : Some c ≡ Some d = sym e ∙ f in cc
 
 module _ (words : Option Command) (c : Command) (is_command : words ≡ Some c) (input : End) (bytes : List ℕ)
     (read : HasRead c input.before input.after bytes) (worked : input.faults_after ≡ input.faults_before) (undisturbed : reads c ≡ false → input.after ≡ input.before)
-    (d : Due) (response : IsResponse c bytes d) (out notes : End) where
+    (d : Due) (response : IsResponse c bytes d)
+    (behave : (text : List ℕ) (p : Program) → IsVerdict false text (Accepted p) → Behaves (layout_of p) p (image p)) (out notes : End) where
   read_for : (e : Command) (all : List ℕ) → words ≡ Some e → input.before ≡ Some all → (c ≡ e) × (bytes ≡ read_by e all)
   read_for e all is_e is_all =
       let same = same_command words c e is_command is_e in
@@ -383,6 +388,7 @@ module _ (words : Option Command) (c : Command) (is_command : words ≡ Some c) 
         due = (d, subst (λ k. IsDue k (read_by e all) d) r.0 (subst (λ l. IsDue c l d) r.1 response.due), w);
         only = λ f h. subst (IsWritten d.status out notes) (only_due e all is_e is_all f h) w;
         built = λ fold build is_done. (d.out, subst (λ l. CompilesTo fold l d.out) r.1 (response.built fold (r.0 ∙ build) is_done), w.is_out);
+        built_each = λ is_batch sources answers records are k text a is_source is_answer is_image. image_compiled behave sources answers are k text a is_source is_answer is_image;
         ran = λ fold source steps runs h. response.ran fold source steps (subst (λ k. Runs k bytes fold source steps) (sym r.0) (subst (λ l. Runs e l fold source steps) (sym r.1) runs)) h;
       }
 

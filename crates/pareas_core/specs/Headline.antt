@@ -1,5 +1,5 @@
 -- What the compiler and the program answer.
-use Rattle.std.specs.Prelude.{◌≡◌, ◌≢◌, ℕ, ◌+◌, ◌⊎◌, Bool, true, false, List, [], ◌++◌, length, take, drop, Option, Some, None, if◌then◌else◌}
+use Rattle.std.specs.Prelude.{◌≡◌, ◌≢◌, ℕ, ◌+◌, ◌⊎◌, Bool, true, false, List, [], ◌++◌, length, take, drop, Option, Some, None, slice_get, if◌then◌else◌}
 use Rattle.limits.specs.Limits.{most_source}
 use Rattle.verdict.specs.Verdict.{Accepted, IsVerdict, image}
 use Rattle.rv_code.specs.Code.{layout_of}
@@ -9,10 +9,13 @@ use Rattle.pareas_core.specs.declared.status.Status.{Status}
 use Rattle.pareas_core.specs.declared.status.Status.TheVariants as statuses
 use Rattle.pareas_core.specs.Causes.{Rose, Stayed}
 use Rattle.command_line.specs.declared.command.Command.{Command}
-use Rattle.command_line.specs.declared.command.Command.TheVariants.{Build, Run, Emu, Dump, Asm, Table, Drill}
+use Rattle.command_line.specs.declared.command.Command.TheVariants.{Build, Run, Batch, Emu, Dump, Asm, Table, Drill}
 use Rattle.elf_file.specs.Load.{most as most_image}
+use Rattle.batch_records.specs.Batch.{IsBatch, most_batch}
+use Rattle.batch_records.specs.Answering.{Answered}
+use Rattle.batch_records.specs.declared.answer.AnswerKind.TheVariants as kinds
 use Rattle.drill_source.specs.Drill.{drill_text}
-use Rattle.pareas_core.specs.Output.{Due, IsDue, drill_steps}
+use Rattle.pareas_core.specs.Output.{Due, IsDue, AreAnswers, drill_steps}
 
 -- ---- the compiler
 
@@ -57,6 +60,7 @@ reads _ = true
 abbrev pub most_bytes : Command → ℕ
 most_bytes (Build fold) = most_source
 most_bytes (Run steps fold) = most_source
+most_bytes Batch = most_batch
 most_bytes (Emu steps) = most_image
 most_bytes Dump = most_image
 most_bytes Asm = most_listing
@@ -108,6 +112,9 @@ pub record IsAnswer (c : Command) (bytes : List ℕ) (status : Status) (input ou
   pub only : (d : Due) → IsDue c (read_by c bytes) d → IsWritten status out notes d
   -- what was built is the image of the program that the source is, and behaves as that program on RV32IM
   pub built : (fold : Bool) → c ≡ Build fold → status ≡ statuses.Done → (file : List ℕ) × CompilesTo fold (read_by c bytes) file × Got out file
+  -- each image of a batch is that of the program that its source is, and behaves as that program on RV32IM
+  pub built_each : c ≡ Batch → (sources : List (List ℕ)) (answers : List Answered) → IsBatch (read_by c bytes) sources → AreAnswers sources answers →
+      (k : ℕ) (text : List ℕ) (a : Answered) → slice_get sources k ≡ Some text → slice_get answers k ≡ Some a → a.kind ≡ kinds.Image → CompilesTo false text a.bytes
   -- what was run is the image of the program that the source is, or the text of a drill
   pub ran : (fold : Bool) (source : List ℕ) (steps : ℕ) → Runs c (read_by c bytes) fold source steps → HasRun status → RunsAs fold source steps status
 

@@ -4,6 +4,7 @@ pub mod Coded
 pub mod Memory
 pub mod Reading
 pub mod Output
+pub mod Batch
 pub mod Printing
 pub mod Headline
 pub mod Responses

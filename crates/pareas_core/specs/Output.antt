@@ -1,9 +1,13 @@
 -- What the program writes for a command and the bytes that it read, and its status.
-use Rattle.std.specs.Prelude.{ℕ, ◌+◌, ◌-◌, Bool, false, List, [], ◌++◌, length, take, replicate, codes, decimal, fold, count_by, ◌==◌, if◌then◌else◌, Option, Result, Ok, Err}
+use Rattle.std.specs.Prelude.{ℕ, ◌+◌, ◌-◌, Bool, false, List, [], ◌∷◌, ◌++◌, length, take, replicate, codes, decimal, fold, count_by, ◌==◌, if◌then◌else◌, Option, Result, Ok, Err}
 use Rattle.std.specs.Fmt.{signed_decimal, digits}
 use Rattle.std.specs.List.{flat_map}
 use Rattle.command_line.specs.declared.command.Command.{Command}
-use Rattle.command_line.specs.declared.command.Command.TheVariants.{Build, Run, Emu, Dump, Asm, Table, Drill}
+use Rattle.command_line.specs.declared.command.Command.TheVariants.{Build, Run, Batch, Emu, Dump, Asm, Table, Drill}
+use Rattle.batch_records.specs.Batch.{IsBatch, IsBatchFault, fault_text}
+use Rattle.batch_records.specs.Answering.{Answered, all_bytes}
+use Rattle.batch_records.specs.declared.answer.AnswerKind.TheVariants as kinds
+use Rattle.batch_records.specs.declared.fault.BatchFault.{BatchFault}
 use Rattle.drill_source.specs.Drill.{drill_text}
 use Rattle.rv_isa.specs.Word.{signed}
 use Rattle.rv_isa.specs.declared.hart.FaultKind.{FaultKind}
@@ -15,7 +19,7 @@ use Rattle.rv_text.specs.FaultLines.{line_of_fault as line_of_asm_fault}
 use Rattle.rv_text.specs.declared.fault.AsmFault.{AsmFault}
 use Rattle.rv32_emul.specs.Machine.{Outcome, Course, Exits, Faults, More, machine}
 use Rattle.pareas_core.specs.declared.status.Status.{Status}
-use Rattle.pareas_core.specs.declared.status.Status.TheVariants.{Done, Refused, Limit, Running, Machine, Conflict, BadImage, BadGrammar, BadAsm}
+use Rattle.pareas_core.specs.declared.status.Status.TheVariants.{Done, Refused, Limit, Running, Machine, Conflict, BadImage, BadGrammar, BadAsm, BadBatch}
 use Rattle.table_text.specs.Answers.{IsTableAnswer}
 use Rattle.table_text.specs.Lines.{line, counted}
 use Rattle.table_text.specs.declared.answer.TableAnswer.{TableAnswer}
@@ -137,6 +141,20 @@ due_of_table (tables.NoGrammar text) = noted BadGrammar text
 due_of_table (tables.Conflict text) = noted Conflict text
 due_of_table (tables.Syntax place) = noted Refused (codes "syntax " ++ decimal place)
 
+-- ---- many sources at once
+
+-- the answer to one source: the image of its program, or the line of its diagnostic or of the limit that it passes
+abbrev pub answer_of : List ℕ → Verdict → Answered
+answer_of text (Diagnosed code place) = record { kind = kinds.Diagnostic; bytes = line (codes "error " ++ at_place text code place) }
+answer_of text (Limited code place bytes) = record { kind = kinds.Limit; bytes = line (codes "limit " ++ at_place text code place) }
+answer_of text (Accepted p) = record { kind = kinds.Image; bytes = image p }
+
+-- an answer to each source, in order, as if it were the only one
+pub data AreAnswers : List (List ℕ) → List Answered → Type 0 where
+  no_more : AreAnswers [] []
+  next : {text : List ℕ} {v : Verdict} {sources : List (List ℕ)} {answers : List Answered} → IsVerdict false text v → AreAnswers sources answers →
+      AreAnswers (text ∷ sources) (answer_of text v ∷ answers)
+
 -- ---- what is due
 
 -- What is due for a command and the bytes that it read. Workers, chunks and gate have no part in it.
@@ -144,6 +162,10 @@ pub data IsDue : Command → List ℕ → Due → Type 0 where
   built : {fold : Bool} {bytes : List ℕ} {v : Verdict} → IsVerdict fold bytes v → IsDue (Build fold) bytes (due_of_verdict (λ p. done (image p)) bytes v)
   ran : {steps : ℕ} {fold : Bool} {bytes : List ℕ} {v : Verdict} → IsVerdict fold bytes v →
       IsDue (Run steps fold) bytes (due_of_verdict (λ p. due_of_machine [] (machine (image p) steps)) bytes v)
+  -- the answers to all sources of a batch, or the fault of bytes that are no batch
+  batched : {bytes : List ℕ} {sources : List (List ℕ)} {answers : List Answered} → IsBatch bytes sources → AreAnswers sources answers →
+      IsDue Batch bytes (done (all_bytes answers))
+  bad_batch : {bytes : List ℕ} {fault : BatchFault} → IsBatchFault bytes fault → IsDue Batch bytes (noted BadBatch (fault_text fault))
   emulated : {steps : ℕ} {bytes : List ℕ} → IsDue (Emu steps) bytes (due_of_machine [] (machine bytes steps))
   listed : {bytes : List ℕ} → IsDue Dump bytes (due_of_dump (dumped bytes))
   assembled : {bytes : List ℕ} → IsDue Asm bytes (due_of_asm (file_of_text bytes))

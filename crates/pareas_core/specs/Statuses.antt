@@ -1,7 +1,7 @@
 -- The exit status of the process for each way in which a call of the program ends.
 use Rattle.std.specs.Prelude.{ℕ}
 use Rattle.pareas_core.specs.declared.status.Status.{Status}
-use Rattle.pareas_core.specs.declared.status.Status.TheVariants.{Done, Refused, Usage, ReadFault, WriteFault, Limit, NoMemory, Running, Machine, Conflict, BadImage, BadGrammar, BadAsm}
+use Rattle.pareas_core.specs.declared.status.Status.TheVariants.{Done, Refused, Usage, ReadFault, WriteFault, Limit, NoMemory, Running, Machine, Conflict, BadImage, BadGrammar, BadAsm, BadBatch}
 
 abbrev pub number_of : Status → ℕ
 number_of Done = 0
@@ -17,3 +17,4 @@ number_of Conflict = 9
 number_of BadImage = 10
 number_of BadGrammar = 11
 number_of BadAsm = 12
+number_of BadBatch = 13

@@ -1,6 +1,7 @@
 //! The compiler from source text to an executable file, and what its program reads and writes.
 #![tactic(auto)]
 
+mod batch;
 mod clean;
 mod coding;
 mod compiler;
@@ -19,10 +20,11 @@ mod status;
 mod table;
 mod writing;
 
+pub use batch::{Answers, deal};
 pub use coding::code;
-pub use compiler::compile;
+pub use compiler::{compile, compile_by};
 pub use ends::{ByteIn, ByteOut, Failed};
-pub use front_end::{Analysis, Refusal, front};
+pub use front_end::{Analysis, Refusal, front, language_tables};
 pub use laws::images_are_listed_and_assembled;
 pub use memory::{MemoryIn, MemoryOut};
 pub use program::pareas;

@@ -1,6 +1,9 @@
 //! Lines and columns of places in a source.
-ghost use Rattle.std.specs.Prelude.{◌≡◌, ◌+◌, ◌-◌, ◌<◌, ◌^◌, ◌==◌, take, fold, count_by, if◌then◌else◌};
-ghost use Rattle.pareas_core.specs.Output.{column as column_of, line_number as line_number_of};
+ghost use Rattle.std.specs.Prelude.{◌≡◌, ◌+◌, ◌-◌, ◌<◌, ◌^◌, ◌++◌, ◌==◌, codes, decimal, length, IfOk, take, fold, count_by, if◌then◌else◌};
+ghost use Rattle.pareas_core.specs.Output.{at_place, column as column_of, line_number as line_number_of};
+ghost use Rattle.table_text.specs.Lines.{line as line_of};
+
+use std::alloc::{AllocError, Global};
 
 // The bytes before a place.
 fn front(text: &[u8], place: usize) -> &[u8]
@@ -51,4 +54,48 @@ pub(crate) fn column(text: &[u8], place: usize) -> u64
     ensures { result ≡ column_of text.now place }
 {
     column_behind(front(text, place))
+}
+
+// The line of a diagnostic, by its code and its place in lines and columns.
+fn error_text(alloc: Global, code: u16, row: u64, column: u64) -> Result<Vec<u8>, AllocError>
+    ensures { IfOk result (λ v. v.items ≡ line_of (codes "error " ++ (decimal code ++ codes " at " ++ decimal row ++ codes ":" ++ decimal column))) }
+{
+    Ok(format!(in alloc; "error {code} at {row}:{column}\n")?.into_bytes())
+}
+
+// The line of a limit, by its code and its place in lines and columns.
+fn limit_text(alloc: Global, code: u16, row: u64, column: u64) -> Result<Vec<u8>, AllocError>
+    ensures { IfOk result (λ v. v.items ≡ line_of (codes "limit " ++ (decimal code ++ codes " at " ++ decimal row ++ codes ":" ++ decimal column))) }
+{
+    Ok(format!(in alloc; "limit {code} at {row}:{column}\n")?.into_bytes())
+}
+
+/// The line of a diagnostic, by its code and its place.
+pub(crate) fn error_line(
+    alloc: Global,
+    text: &[u8],
+    code: u16,
+    place: u32,
+) -> Result<Vec<u8>, AllocError>
+    ensures line { IfOk result (λ v. v.items ≡ line_of (codes "error " ++ at_place text.now code place)) }
+    ensures short { IfOk result (λ v. length v.items < 2 ^ 32) }
+{
+    let row = line_number(text, place as usize);
+    let column = column(text, place as usize);
+    error_text(alloc, code, row, column)
+}
+
+/// The line of a limit, by its code and its place.
+pub(crate) fn limit_line(
+    alloc: Global,
+    text: &[u8],
+    code: u16,
+    place: u32,
+) -> Result<Vec<u8>, AllocError>
+    ensures line { IfOk result (λ v. v.items ≡ line_of (codes "limit " ++ at_place text.now code place)) }
+    ensures short { IfOk result (λ v. length v.items < 2 ^ 32) }
+{
+    let row = line_number(text, place as usize);
+    let column = column(text, place as usize);
+    limit_text(alloc, code, row, column)
 }

@@ -12,10 +12,12 @@ use crate::response::{deliver, respond};
 use crate::sharing::plan_for;
 use crate::status::Status;
 use crate::writing::write_all;
+use batch_records::MOST_BYTES as MOST_BATCH;
 use chunk_seats::Gate;
 use command_line::{Command, Refusal, Request, read};
 use limits::MOST_SOURCE;
 use par_passes::Workers;
+use simulation::source_behaves;
 use std::alloc::Global;
 use std::thread::Threads;
 
@@ -34,6 +36,7 @@ fn limit_of(command: &Command) -> usize
 {
     match command {
         Command::Build { .. } | Command::Run { .. } => MOST_SOURCE,
+        Command::Batch => MOST_BATCH,
         Command::Emu { .. } | Command::Dump => MOST_IMAGE,
         Command::Asm => MOST_LISTING,
         Command::Table { .. } => MOST_GRAMMAR,
@@ -84,6 +87,7 @@ pub fn pareas<R: Threads + Sync, I: ByteIn, O: ByteOut, E: ByteOut, G: Gate>(
         (record { before = E.written notes.old; after = E.written notes.new; faults_before = E.faults notes.old; faults_after = E.faults notes.new })
         result }
 {
+    source_behaves();
     let Request { command, plan } = match read(alloc, words) {
         Ok(request) => request,
         Err(Refusal::Usage(text)) => {

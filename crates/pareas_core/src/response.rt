@@ -6,20 +6,23 @@ ghost use Rattle.pareas_core.specs.declared.status.Status.TheVariants.{Limit, Re
 ghost use Rattle.pareas_core.specs.Output.{at_place, noted};
 ghost use Rattle.pareas_core.specs.Responses.{IsDelivered, IsResponse, IsToldOf};
 
+use crate::batch::batch;
 use crate::compiler::compile;
 use crate::drill::drill;
 use crate::ends::ByteOut;
 use crate::listing::{asm, dump};
 use crate::machine::emulate;
-use crate::position::{column, line_number};
+use crate::position::{error_line, limit_line};
 use crate::status::Status;
 use crate::table::table;
 use crate::writing::write_all;
+use chunk_seats::Gate;
 use command_line::Command;
 use front_end::Refusal;
-use par_passes::Passes;
+use par_passes::{Passes, Workers};
 use std::alloc::{AllocError, Global};
-use std::marker::Model;
+use std::marker::{Model, Sync};
+use std::thread::Threads;
 use verdict::one_verdict;
 
 /// The status, and the bytes for the output and for the notes.
@@ -42,12 +45,10 @@ impl Model for Response {
 fn diagnostic(alloc: Global, source: &[u8], code: u16, at: u32) -> Result<Response, AllocError>
     ensures { IfOk result (λ response. response ≡ noted Refused (codes "error " ++ at_place source.now code at)) }
 {
-    let line = line_number(source, at as usize);
-    let column = column(source, at as usize);
     Ok(Response {
         status: Status::Refused,
         out: Vec::new(alloc),
-        notes: format!(in alloc; "error {code} at {line}:{column}\n")?.into_bytes(),
+        notes: error_line(alloc, source, code, at)?,
     })
 }
 
@@ -55,12 +56,10 @@ fn diagnostic(alloc: Global, source: &[u8], code: u16, at: u32) -> Result<Respon
 fn limit(alloc: Global, source: &[u8], code: u16, at: u32) -> Result<Response, AllocError>
     ensures { IfOk result (λ response. response ≡ noted Limit (codes "limit " ++ at_place source.now code at)) }
 {
-    let line = line_number(source, at as usize);
-    let column = column(source, at as usize);
     Ok(Response {
         status: Status::Limit,
         out: Vec::new(alloc),
-        notes: format!(in alloc; "limit {code} at {line}:{column}\n")?.into_bytes(),
+        notes: limit_line(alloc, source, code, at)?,
     })
 }
 
@@ -107,8 +106,8 @@ fn run(crew: &impl Passes, source: &[u8], steps: u32, fold: bool) -> Result<Resp
 
 /// The answer to a command for the bytes that it read.
 #[inline(never)]
-pub(crate) fn respond(
-    crew: &impl Passes,
+pub(crate) fn respond<R: Threads + Sync, G: Gate>(
+    crew: &Workers<'_, R, G>,
     command: &Command,
     bytes: &[u8],
 ) -> Result<Response, AllocError>
@@ -117,9 +116,10 @@ pub(crate) fn respond(
     match command {
         Command::Build { fold } => build(crew, bytes, *fold),
         Command::Run { steps, fold } => run(crew, bytes, *steps, *fold),
-        Command::Emu { steps } => emulate(crew.alloc(), Vec::new(crew.alloc()), bytes, *steps),
-        Command::Dump => dump(crew.alloc(), bytes),
-        Command::Asm => asm(crew.alloc(), bytes),
+        Command::Batch => batch(crew, bytes),
+        Command::Emu { steps } => emulate(crew.alloc, Vec::new(crew.alloc), bytes, *steps),
+        Command::Dump => dump(crew.alloc, bytes),
+        Command::Asm => asm(crew.alloc, bytes),
         Command::Table { word } => table(crew, bytes, word),
         Command::Drill { seed, functions } => drill(crew, *seed, *functions),
     }

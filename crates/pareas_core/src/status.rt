@@ -31,6 +31,8 @@ pub enum Status {
     BadGrammar,
     /// The text isn't a listing of the form that is assembled.
     BadAsm,
+    /// The bytes aren't a batch of records.
+    BadBatch,
 }
 
 impl Status {
@@ -52,6 +54,7 @@ impl Status {
             Status::BadImage => 10,
             Status::BadGrammar => 11,
             Status::BadAsm => 12,
+            Status::BadBatch => 13,
         }
     }
 }

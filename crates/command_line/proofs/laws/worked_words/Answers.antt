@@ -4,4 +4,4 @@ use Rattle.command_line.proofs.laws.worked_words.Goals as goal
 
 pub returns : goal.returns
 unfolding clap_on_literals
-returns c = record { build = refl; fold = refl; fold_run = refl; fold_twice = refl; fold_valued = refl; fold_elsewhere = refl; options = refl; emu = refl; dump = refl; asm = refl; table = refl; word = refl; empty_word = refl; valueless = refl; two_words = refl; drill = refl; seedless = refl; bare = refl; too_many = refl; help = refl }
+returns c = record { build = refl; fold = refl; fold_run = refl; fold_twice = refl; fold_valued = refl; fold_elsewhere = refl; options = refl; batch = refl; batch_options = refl; fold_batch = refl; emu = refl; dump = refl; asm = refl; table = refl; word = refl; empty_word = refl; valueless = refl; two_words = refl; drill = refl; seedless = refl; bare = refl; too_many = refl; help = refl }

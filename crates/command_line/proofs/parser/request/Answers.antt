@@ -1,9 +1,12 @@
 use Rattle.std.proofs.Common.{rules}
-use Rattle.command_line.proofs.Numbers.{run_plan, drill_numbers}
+use Rattle.command_line.proofs.Numbers.{run_plan, batch_plan, drill_numbers}
 use Rattle.command_line.proofs.parser.request.Goals as goal
 
 pub plan-requires-in-run : goal.plan-requires-in-run
 plan-requires-in-run c = run_plan _ c.args.name.now c.requires (search rules)
+
+pub plan-requires-in-batch : goal.plan-requires-in-batch
+plan-requires-in-batch c = batch_plan _ c.args.name.now c.requires (search rules)
 
 pub plan-requires-in-drill : goal.plan-requires-in-drill
 plan-requires-in-drill c = (drill_numbers _ c.args.name.now c.requires (search rules)).1
