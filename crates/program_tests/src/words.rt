@@ -112,6 +112,10 @@ const LINES: &[(&str, &str)] = &[
     ("pareas build --fold --fold", ""),
     ("pareas run --fold=true", ""),
     ("pareas run --fold true", ""),
+    ("pareas batch", "Batch 4 1024"),
+    ("pareas batch --workers 2 --chunk 7", "Batch 2 7"),
+    ("pareas batch --fold", ""),
+    ("pareas batch --steps 3", ""),
     ("pareas emu --fold", ""),
     ("pareas drill --seed 1 --functions 1 --fold", ""),
     ("pareas emu --workers 1", ""),
@@ -159,6 +163,7 @@ const REFUSALS: &[(&str, &str)] = &[
     ("pareas help build", BUILD_HELP),
     ("pareas build --help", BUILD_HELP),
     ("pareas help run", RUN_HELP),
+    ("pareas help batch", BATCH_HELP),
     ("pareas help emu", EMU_HELP),
     ("pareas help dump", DUMP_HELP),
     ("pareas help asm", ASM_HELP),
@@ -187,6 +192,7 @@ Usage: pareas <COMMAND>
 Commands:
   build  Compiles a program: source on standard input, ELF file for RV32IM on standard output
   run    Compiles a program from standard input and runs it on the emulator: prints its output and how it ends
+  batch  Compiles many programs: sources on standard input, each behind its length, an ELF file or a diagnostic for each on standard output
   emu    Runs an ELF file for RV32IM from standard input on the emulator: prints its output and how it ends
   dump   Lists the code of an ELF file for RV32IM from standard input: prints a line for each word
   asm    Assembles a listing as `dump` prints it: lines on standard input, ELF file for RV32IM on standard output
@@ -221,6 +227,17 @@ Options:
       --chunk <C>    Items that a thread draws at a time, 1 to 65536 [default: 1024]
       --steps <M>    Steps after which the machine stops, 0 to 1000000000 [default: 1000000]
       --fold         Fold the constants of the program
+  -h, --help         Print help
+";
+
+const BATCH_HELP: &str = "\
+Compiles many programs: sources on standard input, each behind its length, an ELF file or a diagnostic for each on standard output
+
+Usage: pareas batch [OPTIONS]
+
+Options:
+      --workers <N>  Threads that share the work, 1 to 64 [default: 4]
+      --chunk <C>    Items that a thread draws at a time, 1 to 65536 [default: 1024]
   -h, --help         Print help
 ";
 
@@ -277,7 +294,7 @@ Options:
 
 const NO_COMMAND: &str = "\
 error: 'pareas' requires a subcommand but one was not provided
-  [subcommands: build, run, emu, dump, asm, table, drill, help]
+  [subcommands: build, run, batch, emu, dump, asm, table, drill, help]
 
 Usage: pareas <COMMAND>
 
