@@ -24,6 +24,16 @@ pub trait Crew: Sync {
 
     /// The hook that is called after each claim.
     fn gate(&self) -> &Self::Hook;
+
+    /// The crew for a pass over `len` items, with the plan that [`Plan::for_items`] gives.
+    final fn for_items(&self, len: usize) -> Workers<'_, Self::Runtime, Self::Hook> {
+        Workers {
+            runtime: self.runtime(),
+            alloc: self.alloc(),
+            plan: self.plan().for_items(len),
+            gate: self.gate(),
+        }
+    }
 }
 
 /// The workers of a runtime.

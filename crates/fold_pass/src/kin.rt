@@ -101,23 +101,28 @@ fn append(all: &mut Kin, more: &Kin) -> Result<(), AllocError>
     Ok(())
 }
 
-// The kin of the stretches, together.
-fn join_parts(alloc: Global, lows: &[u32], ends: &[usize], parts: &[Kin]) -> Result<Kin, AllocError>
-    requires many { length parts.now ≡ length ends.now }
-    requires each { (c : ℕ) (x : AnyKin) → slice_get parts.now c ≡ Some x → AreTies (ties_alone lows.now (start_of ends.now c) (number_at ends.now c)) x }
+// The kin of the stretches, together. That of a stretch ends once it is copied.
+fn join_parts(
+    alloc: Global,
+    lows: &[u32],
+    ends: &[usize],
+    parts: Vec<Kin>,
+) -> Result<Kin, AllocError>
+    requires many { length parts.items ≡ length ends.now }
+    requires each { (c : ℕ) (x : AnyKin) → slice_get parts.items c ≡ Some x → AreTies (ties_alone lows.now (start_of ends.now c) (number_at ends.now c)) x }
     ensures { IfOk result (λ v. AreTies (ties_by_stretches lows.now ends.now) v) }
 {
-    // The contract alone speaks of these.
-    let _ = lows;
+    // The contract alone speaks of it.
     let _ = ends;
+    let rows = lows.len();
     let mut all = Kin {
-        parents: Vec::new(alloc),
-        lows: Vec::new(alloc),
-        places: Vec::new(alloc),
-        counts: Vec::new(alloc),
+        parents: Vec::with_capacity(alloc, rows)?,
+        lows: Vec::with_capacity(alloc, rows)?,
+        places: Vec::with_capacity(alloc, rows)?,
+        counts: Vec::with_capacity(alloc, rows)?,
     };
     for part in parts {
-        append(&mut all, part)?;
+        append(&mut all, &part)?;
     }
     Ok(all)
 }
@@ -130,7 +135,7 @@ fn kin_in(crew: &impl Passes, lows: &[u32], ends: &[usize]) -> Result<Kin, Alloc
     ensures { IfOk result (λ v. AreTies (ties_by_stretches lows.now ends.now) v) }
 {
     let parts = kin_parts(crew, lows, ends)?;
-    join_parts(crew.alloc(), lows, ends, parts.as_slice())
+    join_parts(crew.alloc(), lows, ends, parts)
 }
 
 /// The kin of rows whose subtrees begin at these ones.
@@ -138,6 +143,7 @@ pub(crate) fn kin(crew: &impl Passes, lows: &[u32]) -> Result<Kin, AllocError>
     requires few { length lows.now ≤ 4294967295 }
     ensures { IfOk result (λ v. AreKin lows.now v) }
 {
+    let crew = &crew.for_items(lows.len());
     let ends = stretch_ends(crew, lows.len())?;
     let known = kin_in(crew, lows, ends.as_slice())?;
     Ok(kin_settled(lows, ends.as_slice(), known))

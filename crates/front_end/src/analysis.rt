@@ -72,16 +72,16 @@ fn tables_beside_tokens<C: Passes>(crew: &C, source: &[u8]) -> Result<(Tables, T
     ensures refused { IfErr result (IsRefused source.now) }
 {
     let alloc = crew.alloc();
-    let (tables, tokens) = join(
+    let (tokens, tables) = join(
         crew.runtime(),
-        move || -> Result<Tables, AllocError>
-            ensures { IfOk result (λ t. AreTablesOf grammar t × IsReduced grammar) }
-        { language_tables(alloc) },
         move || -> Result<Tokens, Refusal>
             requires { length source.now ≤ most_source }
             ensures ok { IfOk result (λ t. AreTokens source.entry.now t) }
             ensures refused { IfErr result (IsRefused source.entry.now) }
         { lexed(crew, source) },
+        move || -> Result<Tables, AllocError>
+            ensures { IfOk result (λ t. AreTablesOf grammar t × IsReduced grammar) }
+        { language_tables(alloc) },
     );
     Ok((tables?, tokens?))
 }

@@ -8,7 +8,7 @@ ghost use Rattle.glue_summary.specs.Pieces.{at_begin};
 ghost use Rattle.glue_summary.specs.Stretch.{AreMet, IsGlueFault, IsGlued, chunk_productions, ended_by, entries_of, start_of};
 ghost use Rattle.llp_wide.specs.WideParsing.{IsFaultByWide, IsLeftParseByWide};
 
-use chunk_seats::Gate;
+use chunk_seats::{Crew, Gate};
 use glue_summary::{
     Mark, ParseFault, PieceTables, Walk, chunks_make_the_whole, ended, join_word, marks_of_chunk,
     productions_of_chunk, tables_make_the_parse,
@@ -100,6 +100,7 @@ fn glue<T: PieceTables + Send + Sync>(
     ensures ok { IfOk result (λ v. IsGlued (T.pieces tables.now) (T.mark tables.now) tokens.now v.items) }
     ensures fault { IfErr result (IsGlueFault (T.pieces tables.now) (T.mark tables.now) tokens.now) }
 {
+    let crew = &crew.for_items(tokens.len());
     let plan = crew.plan();
     if plan.workers == 1 || tokens.len() <= plan.chunk as usize {
         glue_in_turn(crew, tables, tokens, plan.chunk)

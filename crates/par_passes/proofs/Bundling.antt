@@ -1,32 +1,15 @@
--- Slots that are taken in order, of which each is full.
+-- Bundles in the order of their numbers.
 use Rattle.std.proofs.Common.{◌≡◌, ℕ, zero, suc, ◌<◌, All, List, [], ◌∷◌, ◌++◌, length, map, Option, Some, None, Result, Ok, Err, slice_get, refl, sym, ap, ◌∙◌, subst, arith}
 use Rattle.std.specs.Prelude.{IfOk}
 use Rattle.std.specs.Global.{Vec}
 use Rattle.std.specs.List.{range_with_len}
 use Rattle.std.proofs.lemmas.Option.{get_or_from_slice_get}
 use Rattle.std.proofs.lemmas.List.FromFn.{length-range_with_len, get_or-range_with_len}
-use Rattle.chunk_seats.specs.Tallies.{times, OnceBelow}
 use Rattle.scan_lookback.specs.Placed.{Placed}
 use Rattle.par_passes.specs.Passes.{Gives}
 use Rattle.par_passes.specs.Crews.{Gave}
 
 module _ {L : Type 0} where
-  get_middle : (ys : List (Option L)) (o : Option L) (rest : List (Option L)) → slice_get (ys ++ o ∷ rest) (length ys) ≡ Some o
-  get_middle [] o rest = refl
-  get_middle (y ∷ ys) o rest = get_middle ys o rest
-
-  length_middle : (ys : List (Option L)) (o : Option L) (rest : List (Option L)) → length ys < length (ys ++ o ∷ rest)
-  length_middle [] o rest = omega arith
-  length_middle (y ∷ ys) o rest = let n = length_middle ys o rest in omega arith
-
-  -- no slot is empty
-  pub slot_is_there : (pairs : List (ℕ × L)) (count : ℕ) (ys : List (Option L)) (o : Option L) (rest : List (Option L)) → Placed pairs count (ys ++ o ∷ rest) → OnceBelow count (λ n. times n (map (λ (p : ℕ × L). p.0) pairs)) → o ≡ None → ⊥
-  slot_is_there pairs count ys o rest placed once none =
-      let near : length ys < count = (let n = length_middle ys o rest in omega (arith, placed.wide)) in
-      let t = placed.full (length ys) near (omega (arith, (once (length ys)).0 near)) in
-      let here = get_middle ys o rest in
-      cc (here, t.1, none)
-
   get_some : (bs : List L) (rest : List (Option L)) (c : ℕ) (x : L) → slice_get bs c ≡ Some x → slice_get (map Some bs ++ rest) c ≡ Some (Some x)
   get_some [] rest c x h = absurd cc
   get_some (b ∷ bs) rest zero x h = let e : b ≡ x = cc in ap (λ (y : L). Some (Some y)) e

@@ -24,6 +24,9 @@ use word_monoid::WordMonoid;
 
 /// A crew of workers that does passes over arrays. Each answer is the same for every plan and gate, and the only refusal is that
 /// memory is out. A function that does passes takes one value, `crew: &impl Passes`.
+///
+/// A pass over items is done by the crew that [`Crew::for_items`] gives for them. `by_chunks` and `bundles` don't know how many items their numbers
+/// stand for: their callers take that crew themselves, and cut by its plan.
 pub trait Passes: Crew {
     /// What the function gives for each item, in the items' order. It is called once for each.
     final fn map<T: Copy + Sync, U: Copy + Send + Sync, F: Fn(T) -> U + Sync>(
@@ -37,7 +40,7 @@ pub trait Passes: Crew {
         ensures each { IfOk result (λ v. Gives (F.post f.now) items.now v.items) }
         ensures values { IfOk result (λ v. (g : T → U) → All (λ x. (r : U) → F.post f.now x r → r ≡ g x) items.now → v.items ≡ map g items.now) }
     {
-        map(self, items, f)
+        map(&self.for_items(items.len()), items, f)
     }
 
     /// The same for a function that contracts can name.
@@ -49,7 +52,7 @@ pub trait Passes: Crew {
         requires len { length items.now < 2 ^ 62 }
         ensures { IfOk result (λ v. v.items ≡ map (L.lifted lift.now) items.now) }
     {
-        map_lifted(self, items, lift)
+        map_lifted(&self.for_items(items.len()), items, lift)
     }
 
     /// The items that are marked, in the items' order.
@@ -62,7 +65,7 @@ pub trait Passes: Crew {
         requires marks { length marks.now ≡ length items.now }
         ensures { IfOk result (λ v. v.items ≡ map (λ p. p.0) (filter (λ p. p.1) (zip items.now marks.now))) }
     {
-        compact(self, items, marks)
+        compact(&self.for_items(items.len()), items, marks)
     }
 
     /// The places of the items for which the function says true, in order.
@@ -75,7 +78,7 @@ pub trait Passes: Crew {
         requires callable { All (F.pre f.now) items.now }
         ensures { IfOk result (λ v. (g : T → Bool) → All (λ x. (r : Bool) → F.post f.now x r → r ≡ g x) items.now → v.items ≡ marked (range_with_len 0 (length items.now)) (map g items.now)) }
     {
-        positions(self, items, f)
+        positions(&self.for_items(items.len()), items, f)
     }
 
     /// The numbers below `count` for which the function says true, in order.
@@ -87,7 +90,7 @@ pub trait Passes: Crew {
         requires callable { All (F.pre f.now) (range_with_len 0 count) }
         ensures { IfOk result (λ v. (g : ℕ → Bool) → All (λ k. (r : Bool) → F.post f.now k r → r ≡ g k) (range_with_len 0 count) → v.items ≡ filter g (range_with_len 0 count)) }
     {
-        numbers_where(self, count, f)
+        numbers_where(&self.for_items(count as usize), count, f)
     }
 
     /// What the function gives for each number below `count`, in order. It is called once for each.
@@ -101,7 +104,7 @@ pub trait Passes: Crew {
         ensures each { IfOk result (λ v. Gives (F.post f.now) (range_with_len 0 count) v.items) }
         ensures values { IfOk result (λ v. (g : ℕ → U) → All (λ k. (r : U) → F.post f.now k r → r ≡ g k) (range_with_len 0 count) → v.items ≡ map g (range_with_len 0 count)) }
     {
-        tabulate(self, count, f)
+        tabulate(&self.for_items(count as usize), count, f)
     }
 
     /// The item at each of the places, in the places' order.
@@ -114,7 +117,7 @@ pub trait Passes: Crew {
         requires in_range { All (λ p. p < length items.now) places.now }
         ensures { IfOk result (λ v. (d : T) → v.items ≡ map (λ p. slice_index_or items.now p d) places.now) }
     {
-        gather(self, items, places)
+        gather(&self.for_items(places.len()), items, places)
     }
 
     /// The least of the keys, and `u64::MAX` where there is none.
@@ -122,7 +125,7 @@ pub trait Passes: Crew {
         requires len { length keys.now < 2 ^ 62 }
         ensures { IfOk result (λ m. m ≡ fold min (2 ^ 64 - 1) keys.now) }
     {
-        least(self, keys)
+        least(&self.for_items(keys.len()), keys)
     }
 
     /// The least of what the function gives for the numbers below `count`, and `u64::MAX` where there is none. K names what it gives for a
@@ -136,7 +139,7 @@ pub trait Passes: Crew {
         requires lifts { All (λ k. (r : ℕ) → F.post f.now k r → r ≡ K.code_of k) (range_with_len 0 count) }
         ensures { IfOk result (λ m. m ≡ fold min (2 ^ 64 - 1) (map K.code_of (range_with_len 0 count))) }
     {
-        least_of::<Self, F, K>(self, count, f)
+        least_of::<_, F, K>(&self.for_items(count as usize), count, f)
     }
 
     /// The keys in ascending order. Keys that are equal may stand in another order under another plan. One worker, and keys of one chunk, are
@@ -158,7 +161,7 @@ pub trait Passes: Crew {
         requires accepted { All (λ x. IsItem (M.ops monoid.now) (L.lifted lift.now x)) items.now }
         ensures { IfOk result (λ v. v.items ≡ prefixes (M.ops monoid.now) (map (L.lifted lift.now) items.now)) }
     {
-        scan_lifted(self, monoid, items, lift)
+        scan_lifted(&self.for_items(items.len()), monoid, items, lift)
     }
 
     /// The same for a closure. K names the code of what it gives for an item; the call passes `Brand` and picks it.
@@ -174,7 +177,7 @@ pub trait Passes: Crew {
         requires accepted { All (λ x. IsItem (M.ops monoid.now) ((M.ops monoid.now).decode (K.code_of x))) items.now }
         ensures { IfOk result (λ v. v.items ≡ prefixes (M.ops monoid.now) (map (λ x. (M.ops monoid.now).decode (K.code_of x)) items.now)) }
     {
-        scan::<Self, T, M, F, K>(self, monoid, items, lift)
+        scan::<_, T, M, F, K>(&self.for_items(items.len()), monoid, items, lift)
     }
 
     /// What is made of each number below `count`, one list behind the other, in the order of the numbers. `capacity` says how many values
@@ -218,7 +221,7 @@ pub trait Passes: Crew {
         requires small { All (λ v. v < 2 ^ 64 - 1) values.now }
         ensures { IfOk result (λ v. IsScattered places.now values.now len v.items) }
     {
-        scatter(self, places, values, len)
+        scatter(&self.for_items(places.len()), places, values, len)
     }
 }
 

@@ -7,8 +7,8 @@ use list_cuts::even_cuts;
 use par_passes::Passes;
 use std::alloc::AllocError;
 
-// So many stretches for each worker, since some take longer than others.
-const SHARES: usize = 2;
+// So many stretches for each worker, since some take longer than others, and the rows that are walked at the same time are then few.
+const SHARES: usize = 8;
 
 // How long a stretch is: so that each worker has some, and never shorter than a chunk. One worker takes all.
 fn stretch_size(places: usize, plan: &Plan) -> usize

@@ -114,7 +114,7 @@ fn append(all: &mut Found, more: &Found) -> Result<(), AllocError>
     Ok(())
 }
 
-/// What is found of the stretches, together. What is found of a single one stays where it is.
+/// What is found of the stretches, together. What is found of a single one stays where it is, and that of others ends once it is copied.
 pub(crate) fn join_found(
     alloc: Global,
     columns: &Columns,
@@ -128,23 +128,23 @@ pub(crate) fn join_found(
     ensures ties { IfOk result (λ v. AreTies (ties_by_stretches columns.now.lows.items ends.now) v.kin.parents.items v.kin.lows.items v.kin.places.items v.kin.counts.items) }
     ensures least { IfOk result (λ v. v.least ≡ least_in columns.now.kinds.items columns.now.lows.items columns.now.tokens.items 0 (length columns.now.kinds.items)) }
 {
-    // The contract alone speaks of these.
-    let _ = columns;
+    // The contract alone speaks of it.
     let _ = ends;
     if parts.len() == 1 {
         return Ok(parts.swap_remove(0));
     }
+    let rows = columns.kinds.len();
     let mut all = Found {
         kin: Kin {
-            parents: Vec::new(alloc),
-            lows: Vec::new(alloc),
-            places: Vec::new(alloc),
-            counts: Vec::new(alloc),
+            parents: Vec::with_capacity(alloc, rows)?,
+            lows: Vec::with_capacity(alloc, rows)?,
+            places: Vec::with_capacity(alloc, rows)?,
+            counts: Vec::with_capacity(alloc, rows)?,
         },
         least: FaultKey::NONE,
     };
-    for part in parts.as_slice() {
-        append(&mut all, part)?;
+    for part in parts {
+        append(&mut all, &part)?;
     }
     Ok(all)
 }

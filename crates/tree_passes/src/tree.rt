@@ -159,6 +159,7 @@ pub fn rows(
     walks_give_rows();
     stretches_are_rows();
     stretches_tell_faults();
+    let crew = &crew.for_items(parse.len());
     let columns = tree_columns(crew, text, tokens, parse)?;
     let ends = stretch_ends(crew, columns.kinds.len())?;
     let found = find(crew, &columns, ends.as_slice())?;

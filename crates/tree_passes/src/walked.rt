@@ -103,6 +103,15 @@ pub(crate) fn columns_all(
     crew.bundles(ends.len(), &make)
 }
 
+// How many rows the columns have.
+fn count_rows(parts: &[Columns]) -> usize {
+    let mut rows = 0_usize;
+    for part in parts {
+        rows = rows.saturating_add(part.kinds.len());
+    }
+    rows
+}
+
 // Puts columns behind others.
 fn append(all: &mut Columns, more: &Columns) -> Result<(), AllocError>
     ensures kinds { OnOk result (all.new.kinds.items ≡ all.old.kinds.items ++ more.now.kinds.items) }
@@ -115,7 +124,7 @@ fn append(all: &mut Columns, more: &Columns) -> Result<(), AllocError>
     Ok(())
 }
 
-/// The columns of the rows of all stretches. Those of a single stretch stay where they are.
+/// The columns of the rows of all stretches. Those of a single stretch stay where they are, and those of others end once they are copied.
 pub(crate) fn join_columns(
     alloc: Global,
     source: &Source<'_>,
@@ -134,13 +143,15 @@ pub(crate) fn join_columns(
     if parts.len() == 1 {
         return Ok(parts.swap_remove(0));
     }
+    // one more for the program's own row
+    let rows = count_rows(&parts).saturating_add(1);
     let mut all = Columns {
-        kinds: Vec::new(alloc),
-        lows: Vec::new(alloc),
-        tokens: Vec::new(alloc),
+        kinds: Vec::with_capacity(alloc, rows)?,
+        lows: Vec::with_capacity(alloc, rows)?,
+        tokens: Vec::with_capacity(alloc, rows)?,
     };
-    for part in parts.as_slice() {
-        append(&mut all, part)?;
+    for part in parts {
+        append(&mut all, &part)?;
     }
     Ok(all)
 }

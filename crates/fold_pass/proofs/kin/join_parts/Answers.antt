@@ -1,5 +1,6 @@
-use Rattle.std.proofs.Common.{◌≡◌, ℕ, suc, ◌+◌, ◌<◌, length, Some, sym, ap, ◌∙◌, subst, arith}
-use Rattle.std.proofs.lemmas.Option.{slice_get-get_or}
+use Rattle.std.proofs.Common.{◌≡◌, ℕ, suc, [], ◌∷◌, ◌++◌, length, sym, ap, ◌∙◌, subst, arith}
+use Rattle.std.proofs.lemmas.List.{append_assoc, length-append}
+use Rattle.scan_lookback.specs.Laws.Assembling.{next_stands}
 use Rattle.fold_pass.specs.Ties.{AreTies}
 use Rattle.fold_pass.proofs.Kinned.{ties_before, ties_next}
 use Rattle.fold_pass.proofs.kin.join_parts.Goals as goal
@@ -8,19 +9,26 @@ pub loop-part-preserved : goal.loop-part-preserved
 loop-part-preserved c =
     let lows = c.args.lows.now in
     let ends = c.args.ends.now in
-    let k = c.loop-part.part-index in
-    let there : k < length c.args.parts.now = c.loop-part-test.true in
-    let part = c.part-item.result in
-    let at = slice_get-get_or c.args.parts.now k part there ∙ ap Some (sym c.part-item.is) in
+    let ys = c.loop-part.yielded in
+    let part = c.in-Some.part in
+    let rest = c.next.new.self.rest.items in
+    let is : ys ++ part ∷ rest ≡ c.args.parts.items = sym (ap (λ l. ys ++ l) c.in-Some.ensures.steps.0) ∙ c.loop-part.invariant.0 in
+    let k = length ys in
+    let at = next_stands c.args.parts.items ys part rest is in
     let found = c.requires.each k part at in
-    let more : suc k ≡ k + 1 = omega arith in
+    let more : suc k ≡ length (ys ++ part ∷ []) = (let n = length-append ys (part ∷ []) in omega arith) in
+    (append_assoc ys (part ∷ []) rest ∙ is,
     subst (λ (n : ℕ). AreTies (ties_before lows ends n) c.append.new.all) more
-    (ties_next lows ends k c.loop-part.all part c.append.new.all c.loop-part.invariant found c.in_ok-append.ensures.parents c.in_ok-append.ensures.lows c.in_ok-append.ensures.places c.in_ok-append.ensures.counts)
+    (ties_next lows ends k c.loop-part.all part c.append.new.all c.loop-part.invariant.1 found c.in_ok-append.ensures.parents c.in_ok-append.ensures.lows c.in_ok-append.ensures.places c.in_ok-append.ensures.counts))
 
 pub returns : goal.returns
 returns c =
-    let a = c.loop-part.auto.part-index-end in
-    let b = c.loop-part-test.false in
+    let ys = c.loop-part.yielded in
+    let rest = c.loop-part.part-iterator.rest in
+    let a = length-append ys rest.items in
+    let b = ap length c.loop-part.invariant.0 in
+    let o = rest.ok.0 in
+    let n = c.in-None.ensures.steps.0 in
     let m = c.requires.many in
-    let all : c.loop-part.part-index ≡ length c.args.ends.now = omega arith in
-    subst (λ (n : ℕ). AreTies (ties_before c.args.lows.now c.args.ends.now n) c.loop-part.all) all c.loop-part.invariant
+    let all : length ys ≡ length c.args.ends.now = omega arith in
+    subst (λ (n : ℕ). AreTies (ties_before c.args.lows.now c.args.ends.now n) c.loop-part.all) all c.loop-part.invariant.1

@@ -1,6 +1,7 @@
-use Rattle.std.proofs.Common.{◌≡◌, ℕ, suc, ◌+◌, ◌<◌, length, Some, sym, ap, ◌∙◌, subst, arith}
-use Rattle.std.specs.Prelude.{slice_get}
-use Rattle.std.proofs.lemmas.Option.{slice_get-get_or}
+use Rattle.std.proofs.Common.{◌≡◌, ℕ, suc, [], ◌∷◌, ◌++◌, length, Some, sym, ap, ◌∙◌, subst, arith}
+use Rattle.std.proofs.lemmas.List.{append_assoc, length-append}
+use Rattle.std.proofs.lemmas.Option.{slice_get-get_or, slice_get_within}
+use Rattle.scan_lookback.specs.Laws.Assembling.{next_stands}
 use Rattle.list_cuts.specs.Cuts.{start_of}
 use Rattle.row_columns.specs.RowFaults.{least_in}
 use Rattle.tree_passes.specs.Kin.{AreTies}
@@ -11,18 +12,20 @@ pub loop-part-preserved : goal.loop-part-preserved
 loop-part-preserved c =
     let columns = c.args.columns.now in
     let ends = c.args.ends.now in
-    let k = c.loop-part.part-index in
-    let there : k < length c.as_slice-part-items.result.now = c.loop-part-test.true in
-    let same = c.as_slice-part-items.ensures.value in
-    let as_many : length c.as_slice-part-items.result.now ≡ length c.args.parts.items = ap length same in
+    let ys = c.loop-part.yielded in
+    let part = c.in-Some.part in
+    let rest = c.next.new.self.rest.items in
+    let is : ys ++ part ∷ rest ≡ c.args.parts.items = sym (ap (λ l. ys ++ l) c.in-Some.ensures.steps.0) ∙ c.loop-part.invariant.left in
+    let k = length ys in
+    let at = next_stands c.args.parts.items ys part rest is in
+    let there = slice_get_within c.args.parts.items k part at in
     let many = c.requires.many in
-    let part = c.part-item.result in
-    let at = sym (ap (λ xs. slice_get xs k) same) ∙ slice_get-get_or c.as_slice-part-items.result.now k part there ∙ ap Some (sym c.part-item.is) in
     let found = c.requires.each k part at in
     let old = c.loop-part.all.kin in
     let new = c.append.new.all.kin in
-    let more : suc k ≡ k + 1 = omega arith in
+    let more : suc k ≡ length (ys ++ part ∷ []) = (let n = length-append ys (part ∷ []) in omega arith) in
     record {
+      left = append_assoc ys (part ∷ []) rest ∙ is;
       ties = subst (λ (n : ℕ). AreTies (ties_before columns.lows.items ends n) new.parents.items new.lows.items new.places.items new.counts.items) more
           (ties_next columns.lows.items ends k old.parents.items part.kin.parents.items new.parents.items old.lows.items part.kin.lows.items new.lows.items old.places.items part.kin.places.items new.places.items old.counts.items part.kin.counts.items new.counts.items
           c.loop-part.invariant.ties found.ties c.in_ok-append.ensures.parents c.in_ok-append.ensures.lows c.in_ok-append.ensures.places c.in_ok-append.ensures.counts);
@@ -54,20 +57,26 @@ returns-then-len-eq1-clause-least c =
 
 pub returns-clause-ties : goal.returns-clause-ties
 returns-clause-ties c =
-    let a = c.loop-part.auto.part-index-end in
-    let b = c.loop-part-test.false in
+    let ys = c.loop-part.yielded in
+    let rest = c.loop-part.part-iterator.rest in
+    let a = length-append ys rest.items in
+    let b = ap length c.loop-part.invariant.left in
+    let o = rest.ok.0 in
+    let n = c.in-None.ensures.steps.0 in
     let m = c.requires.many in
-    let as_many : length c.as_slice-part-items.result.now ≡ length c.args.parts.items = ap length c.as_slice-part-items.ensures.value in
-    let all : c.loop-part.part-index ≡ length c.args.ends.now = omega arith in
+    let all : length ys ≡ length c.args.ends.now = omega arith in
     let kin = c.loop-part.all.kin in
     subst (λ (n : ℕ). AreTies (ties_before c.args.columns.now.lows.items c.args.ends.now n) kin.parents.items kin.lows.items kin.places.items kin.counts.items) all c.loop-part.invariant.ties
 
 pub returns-clause-least : goal.returns-clause-least
 returns-clause-least c =
-    let a = c.loop-part.auto.part-index-end in
-    let b = c.loop-part-test.false in
+    let ys = c.loop-part.yielded in
+    let rest = c.loop-part.part-iterator.rest in
+    let a = length-append ys rest.items in
+    let b = ap length c.loop-part.invariant.left in
+    let o = rest.ok.0 in
+    let n = c.in-None.ensures.steps.0 in
     let m = c.requires.many in
-    let as_many : length c.as_slice-part-items.result.now ≡ length c.args.parts.items = ap length c.as_slice-part-items.ensures.value in
     let columns = c.args.columns.now in
-    let all : c.loop-part.part-index ≡ length c.args.ends.now = omega arith in
+    let all : length ys ≡ length c.args.ends.now = omega arith in
     c.loop-part.invariant.least ∙ ap (λ (n : ℕ). least_in columns.kinds.items columns.lows.items columns.tokens.items 0 n) (ap (start_of c.args.ends.now) all ∙ c.requires.cuts.all)

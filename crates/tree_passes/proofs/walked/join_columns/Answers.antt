@@ -1,6 +1,7 @@
-use Rattle.std.proofs.Common.{◌≡◌, ℕ, suc, ◌+◌, ◌<◌, length, Some, sym, ap, ◌∙◌, subst, arith}
-use Rattle.std.specs.Prelude.{slice_get}
-use Rattle.std.proofs.lemmas.Option.{slice_get-get_or}
+use Rattle.std.proofs.Common.{◌≡◌, ℕ, suc, [], ◌∷◌, ◌++◌, length, Some, sym, ap, ◌∙◌, subst, arith}
+use Rattle.std.proofs.lemmas.List.{append_assoc, length-append}
+use Rattle.std.proofs.lemmas.Option.{slice_get-get_or, slice_get_within}
+use Rattle.scan_lookback.specs.Laws.Assembling.{next_stands}
 use Rattle.source_meaning.specs.Grammar.{leaves, left_parse}
 use Rattle.row_pieces.specs.Pieces.{no_row}
 use Rattle.row_columns.specs.Stretches.{AreStretch}
@@ -13,16 +14,18 @@ loop-part-preserved c =
     let text = c.args.source.now.text.now in
     let numbers = c.args.source.now.numbers.now in
     let ends = c.args.ends.now in
-    let k = c.loop-part.part-index in
-    let there : k < length c.as_slice-part-items.result.now = c.loop-part-test.true in
-    let same = c.as_slice-part-items.ensures.value in
-    let as_many : length c.as_slice-part-items.result.now ≡ length c.args.parts.items = ap length same in
+    let ys = c.loop-part.yielded in
+    let part = c.in-Some.part in
+    let rest = c.next.new.self.rest.items in
+    let is : ys ++ part ∷ rest ≡ c.args.parts.items = sym (ap (λ l. ys ++ l) c.in-Some.ensures.steps.0) ∙ c.loop-part.invariant.0 in
+    let at = next_stands c.args.parts.items ys part rest is in
+    let there = slice_get_within c.args.parts.items (length ys) part at in
     let many = c.requires.many in
-    let part = c.part-item.result in
-    let at = sym (ap (λ xs. slice_get xs k) same) ∙ slice_get-get_or c.as_slice-part-items.result.now k part there ∙ ap Some (sym c.part-item.is) in
-    subst (λ (n : ℕ). AreColumnsBefore text numbers ends n c.append.new.all.kinds.items c.append.new.all.lows.items c.append.new.all.tokens.items) (let e : suc k ≡ k + 1 = omega arith in e)
-    (columns_next text numbers ends c.requires.cut k (omega arith) c.loop-part.all.kinds.items part.kinds.items c.append.new.all.kinds.items c.loop-part.all.lows.items part.lows.items c.append.new.all.lows.items c.loop-part.all.tokens.items part.tokens.items c.append.new.all.tokens.items
-    c.loop-part.invariant (c.requires.each k part at) c.in_ok-append.ensures.kinds c.in_ok-append.ensures.lows c.in_ok-append.ensures.tokens)
+    let more : suc (length ys) ≡ length (ys ++ part ∷ []) = (let n = length-append ys (part ∷ []) in omega arith) in
+    (append_assoc ys (part ∷ []) rest ∙ is,
+    subst (λ (n : ℕ). AreColumnsBefore text numbers ends n c.append.new.all.kinds.items c.append.new.all.lows.items c.append.new.all.tokens.items) more
+    (columns_next text numbers ends c.requires.cut (length ys) (omega arith) c.loop-part.all.kinds.items part.kinds.items c.append.new.all.kinds.items c.loop-part.all.lows.items part.lows.items c.append.new.all.lows.items c.loop-part.all.tokens.items part.tokens.items c.append.new.all.tokens.items
+    c.loop-part.invariant.1 (c.requires.each (length ys) part at) c.in_ok-append.ensures.kinds c.in_ok-append.ensures.lows c.in_ok-append.ensures.tokens))
 
 pub returns-then-len-eq1 : goal.returns-then-len-eq1
 returns-then-len-eq1 c =
@@ -38,9 +41,12 @@ pub returns : goal.returns
 returns c = λ r is.
     let numbers = c.args.source.now.numbers.now in
     let ends = c.args.ends.now in
-    let a = c.loop-part.auto.part-index-end in
-    let b = c.loop-part-test.false in
+    let ys = c.loop-part.yielded in
+    let rest = c.loop-part.part-iterator.rest in
+    let a = length-append ys rest.items in
+    let b = ap length c.loop-part.invariant.0 in
+    let o = rest.ok.0 in
+    let n = c.in-None.ensures.steps.0 in
     let m = c.requires.many in
-    let as_many : length c.as_slice-part-items.result.now ≡ length c.args.parts.items = ap length c.as_slice-part-items.ensures.value in
-    let all : c.loop-part.part-index ≡ length ends = omega arith in
-    subst (λ ms. AreStretch (left_parse r) (leaves r) 0 no_row ms c.loop-part.all.kinds.items c.loop-part.all.lows.items c.loop-part.all.tokens.items) (ap (rows_before numbers ends) all ∙ rows_whole numbers ends c.requires.cut r is.1) (c.loop-part.invariant r is)
+    let all : length ys ≡ length ends = omega arith in
+    subst (λ ms. AreStretch (left_parse r) (leaves r) 0 no_row ms c.loop-part.all.kinds.items c.loop-part.all.lows.items c.loop-part.all.tokens.items) (ap (rows_before numbers ends) all ∙ rows_whole numbers ends c.requires.cut r is.1) (c.loop-part.invariant.1 r is)
