@@ -98,7 +98,14 @@ fn piece_of(
     let predictions = ahead.predictions.as_slice();
     let first = ahead.first.as_slice();
     let closes = stack.closes.as_slice();
-    let mut productions = room.no_productions(alloc, grammar, first, predictions, closes)?;
+    let mut productions = room.no_productions(
+        alloc,
+        grammar,
+        first,
+        predictions,
+        stack.ahead,
+        closes,
+    )?;
     let opens = add_piece(
         alloc,
         grammar,

@@ -33,7 +33,7 @@ fn write_piece(
 {
     let first = ahead.first.as_slice();
     let predictions = ahead.predictions.as_slice();
-    let mut piece = room.no_productions(alloc, grammar, first, predictions, closes)?;
+    let mut piece = room.no_productions(alloc, grammar, first, predictions, b, closes)?;
     let _opens = add_piece(alloc, grammar, predictions, b, closes, &mut piece)?;
     productions.extend_from_slice(piece.as_slice())
 }

@@ -10,7 +10,7 @@ returns c =
     let g = c.args.grammar.now in
     let opens = c.in_ok-opens.opens.items in
     let productions = c.add_piece.new.productions.items in
-    let made = piece_alone g c.stack.inside.ahead c.as_slice-closes.result.now opens c.in_ok-productions.productions.items productions c.in_ok-productions.ensures c.in_ok-opens.ensures in
+    let made = piece_alone g c.stack.inside.ahead c.as_slice-closes.result.now opens c.in_ok-productions.productions.items productions c.in_ok-productions.ensures.items c.in_ok-opens.ensures in
     let ahead : c.stack.inside.ahead ≡ c.args.stack.now.ahead = ap (λ (s : ClosedStack). s.ahead) c.stack.view_is in
     let kept : c.in_ok-closes.closes.items ≡ c.as_slice-closes.result.now = c.in_ok-closes.ensures.items in
     record {
