@@ -38,12 +38,14 @@ count_both : (g : Grammar) (u v : List Symbol) (m n : ℕ) → IsEmptyLength g u
 count_both g u v m n h k =
     (h.0 ++ k.0, derives-append g h.0 k.0 (u ++ v) v [] (derives-rest g h.0 u [] v h.1) k.1, saturated_sum (length h.0) (length k.0) m n h.2 k.2 ∙ ap saturated (sym (length-append h.0 k.0)))
 
-pub sum_more : (lengths : List (Option ℕ)) (form : List Symbol) (s : Symbol) (m n : ℕ) → IsSum lengths form m → length_of lengths s ≡ Some n → IsSum lengths (form ++ s ∷ []) (min (m + n) (2 ^ 64 - 1))
+pub sum_more : (lengths : List (Option ℕ)) (form : List Symbol) (s : Symbol) (m n : ℕ) → IsSum lengths form m → length_of lengths s ≡ Some n
+    → IsSum lengths (form ++ s ∷ []) (min (m + n) (2 ^ 64 - 1))
 sum_more lengths form (Terminal c) m n h is = absurd (none-some n is)
 sum_more lengths form (Nonterminal a) m n h is =
     record {
       vanish = list_all-append (vanishes (counted lengths)) form (Nonterminal a ∷ [])
-          ∙ and (all_vanish (counted lengths) form) (vanishes (counted lengths) (Nonterminal a) && true) h.vanish (and (vanishes (counted lengths) (Nonterminal a)) true (get_or-counted lengths a ∙ ap is_some is) refl);
+          ∙ and (all_vanish (counted lengths) form) (vanishes (counted lengths) (Nonterminal a) && true) h.vanish
+          (and (vanishes (counted lengths) (Nonterminal a)) true (get_or-counted lengths a ∙ ap is_some is) refl);
       count = λ g counts. count_both g form (Nonterminal a ∷ []) m n (h.count g counts) (counts a n is);
     }
 
@@ -74,8 +76,11 @@ next_sum productions lengths place rule n is new h =
     record {
       next = record { place = place; rule = rule; rule_is = is; left_is = refl; right_is = h.vanish; is_new = get_or-counted lengths rule.left ∙ ap is_some new };
       count = λ g same counts. let k = h.count g counts in
-          let at = rule_of g place rule rule.left (ap (λ ps. slice_get ps place) same ∙ is) refl in
-          (suc place ∷ k.0, derives_step g (suc place) rule.left rule.right [] k.0 [] at (subst (λ f. Derives g f k.0 []) (sym (append-nil rule.right)) k.1), saturated_sum (length k.0) 1 n 1 k.2 refl ∙ ap saturated (let e : length k.0 + 1 ≡ suc (length k.0) = omega arith in e));
+          let at = rule_of g place rule rule.left (ap (λ ps. slice_get ps place) same ∙ is) refl in (
+            suc place ∷ k.0,
+            derives_step g (suc place) rule.left rule.right [] k.0 [] at (subst (λ f. Derives g f k.0 []) (sym (append-nil rule.right)) k.1),
+            saturated_sum (length k.0) 1 n 1 k.2 refl ∙ ap saturated (let e : length k.0 + 1 ≡ suc (length k.0) = omega arith in e),
+          );
     }
 
 -- none of the first n productions has a right side whose symbols have their counts, and a left side that has none
@@ -83,8 +88,8 @@ abbrev pub IsClosedBelow : List Production → List (Option ℕ) → ℕ → Typ
 IsClosedBelow productions lengths n =
     (place : ℕ) (rule : Production) → place < n → slice_get productions place ≡ Some rule → all_vanish (counted lengths) rule.right ≡ true → get_or (counted lengths) rule.left false ≡ true
 
-pub closed_step : (productions : List Production) (lengths : List (Option ℕ)) (n : ℕ) (rule : Production) → n < length productions → rule ≡ get_or productions n rule → IsClosedBelow productions lengths n
-    → (all_vanish (counted lengths) rule.right ≡ true → get_or (counted lengths) rule.left false ≡ true) → IsClosedBelow productions lengths (n + 1)
+pub closed_step : (productions : List Production) (lengths : List (Option ℕ)) (n : ℕ) (rule : Production) → n < length productions → rule ≡ get_or productions n rule
+    → IsClosedBelow productions lengths n → (all_vanish (counted lengths) rule.right ≡ true → get_or (counted lengths) rule.left false ≡ true) → IsClosedBelow productions lengths (n + 1)
 closed_step productions lengths n rule within is below here place other lt at = go (eqb place n) refl
   where
     go : (b : Bool) → eqb place n ≡ b → all_vanish (counted lengths) other.right ≡ true → get_or (counted lengths) other.left false ≡ true

@@ -14,11 +14,14 @@ use Rattle.ll1_sets.specs.Marking.{starts, vanishes, all_vanish, begins}
 use Rattle.ll1_sets.specs.Laws.FormTests.{both, and, begins_exactly}
 use Rattle.ll1_sets.specs.Laws.Ll1.{reads_same}
 use Rattle.llp_tables.specs.Lookback.{IsLookback, IsPiece}
-use Rattle.llp_tables.specs.Lengths.{saturated, IsEmptyLength, counted, AreEmptyLengths, IsSum, IsPredictedRight, IsPieceOf, IsPieceLength}
+use Rattle.llp_tables.specs.Lengths.{saturated, IsEmptyLength, counted, AreEmptyLengths, IsSum, IsPredictedRight, HasNoPredictedRight, IsPieceOf, IsPieceLength}
 use Rattle.llp_tables.proofs.Reading.{readable}
 use Rattle.llp_tables.proofs.EmptyLengths.{saturated_sum}
 
+-- ---- what begins with b
+
 module _ (g : Grammar) (b : ℕ) where
+  -- a terminal that does is b
   first_terminal : (c : ℕ) → IsFirst g (Terminal c ∷ []) b → c ≡ b
   first_terminal c h = let r = reads_first g b h.0 (Terminal c ∷ []) h.1 h.2 in go r.ps1 r.left r.reads
     where
@@ -77,7 +80,14 @@ module _ (g : Grammar) (b : ℕ) (nulls first : List Bool) (null : AreMarksOf g 
           let n = both (vanishes nulls s) (begins nulls first b form) k in
           let f = more n.1 in
           subst (IsFront g b nulls (s ∷ form)) (let one : suc (prefix_len passes form) ≡ 1 + prefix_len passes form = omega arith in one)
-          (record { symbol = f.symbol; below = f.below; parts = ap (λ u. s ∷ u) f.parts; at = f.at; above = and (vanishes nulls s) (all_vanish nulls (take (prefix_len passes form) form)) n.0 f.above; begins = f.begins })
+          (record {
+            symbol = f.symbol;
+            below = f.below;
+            parts = ap (λ u. s ∷ u) f.parts;
+            at = f.at;
+            above = and (vanishes nulls s) (all_vanish nulls (take (prefix_len passes form) form)) n.0 f.above;
+            begins = f.begins;
+          })
 
   pub front : (form : List Symbol) → IsFirst g form b → IsFront g b nulls form (prefix_len passes form)
   front form h = front_by form (begins_exactly g nulls null b first are form h)
@@ -98,7 +108,7 @@ module _ (g : Grammar) (b : ℕ) (closes : List Symbol) where
       record { begins = (r.productions, r.left, reads_derives g b r.productions closes r.left r.reads); done = []; counted = refl; onwards = λ more v k. (v, k) }
 
   -- all productions by which what is closed reads b are as many as those of a piece
-  piece_by : (ll : IsLl1 g) (a : ℕ) → IsLookback g a b closes → (qs : List ℕ) (u : List Symbol) → Reads g b qs closes u → (opens : List Symbol) (ps : List ℕ) → IsPiece g b closes opens ps → qs ≡ ps
+  piece_by : IsLl1 g → (a : ℕ) → IsLookback g a b closes → (qs : List ℕ) (u : List Symbol) → Reads g b qs closes u → (opens : List Symbol) (ps : List ℕ) → IsPiece g b closes opens ps → qs ≡ ps
   piece_by ll a h qs u reads opens ps piece =
       let r = readable g b a closes h in
       let d = drives_of_first g (b ∷ []) ps closes opens piece in
@@ -116,12 +126,14 @@ module _ (g : Grammar) (b : ℕ) (closes : List Symbol) where
       let is : sum ≡ min (length k.done) (2 ^ 64 - 1) = k.counted in
       omega arith
 
-  module _ (form : List Symbol) (sum : ℕ) (k : IsCountedTo g b closes form sum) (place : ℕ) (nulls : List Bool) (f : IsFront g b nulls form place) (skipped : ℕ) (s : IsEmptyLength g (take place form) skipped) where
+  module _ (form : List Symbol) (sum : ℕ) (k : IsCountedTo g b closes form sum) (place : ℕ) (nulls : List Bool) (f : IsFront g b nulls form place)
+      (skipped : ℕ) (s : IsEmptyLength g (take place form) skipped) where
     -- the form reads b by what derives nothing, and then as its front does
     by_front : (more : List ℕ) (v : List Symbol) → Reads g b more (f.symbol ∷ []) v → (u : List Symbol) × Reads g b (k.done ++ (s.0 ++ more)) closes u
     by_front more v h =
         k.onwards (s.0 ++ more) (v ++ f.below)
-        (subst (λ u. Reads g b (s.0 ++ more) u (v ++ f.below)) (sym f.parts) (reads_below g b s.0 more (take place form) (f.symbol ∷ f.below) (v ++ f.below) s.1 (reads_above g b more (f.symbol ∷ []) v f.below h)))
+        (subst (λ u. Reads g b (s.0 ++ more) u (v ++ f.below)) (sym f.parts)
+        (reads_below g b s.0 more (take place form) (f.symbol ∷ f.below) (v ++ f.below) s.1 (reads_above g b more (f.symbol ∷ []) v f.below h)))
 
     sum_is : min (sum + skipped) (2 ^ 64 - 1) ≡ saturated (length (k.done ++ s.0))
     sum_is = saturated_sum (length k.done) (length s.0) sum skipped k.counted s.2 ∙ ap saturated (sym (length-append k.done s.0))
@@ -145,7 +157,7 @@ module _ (g : Grammar) (b : ℕ) (closes : List Symbol) where
           }
 
       -- b itself in front: the piece ends
-      pub counted_end : ((right : List Symbol) → ¬ IsPredictedRight g predictions form place right) → IsPieceLength g b closes (min (sum + skipped) (2 ^ 64 - 1))
+      pub counted_end : HasNoPredictedRight g predictions form place → IsPieceLength g b closes (min (sum + skipped) (2 ^ 64 - 1))
       counted_end none opens ps piece = go f.symbol refl
         where
           go : (t : Symbol) → f.symbol ≡ t → min (sum + skipped) (2 ^ 64 - 1) ≡ saturated (length ps)
@@ -156,11 +168,13 @@ module _ (g : Grammar) (b : ℕ) (closes : List Symbol) where
               sum_is ∙ ap (λ qs. saturated (length qs)) (ap (λ qs. k.done ++ qs) (sym (append-nil s.0)) ∙ same)
           go (Nonterminal a) is =
               let r = read_by g b h.ll1 predictions h.predictions_are a (subst (λ t. IsFirst g (t ∷ []) b) is f.begins) in
-              absurd (none r.right (record { nonterminal = a; number = r.number; rule = record { left = a; right = r.right }; symbol_is = f.at ∙ ap Some is; number_is = r.number_is; rule_is = r.rule; right_is = refl }))
+              absurd (none r.right
+              (record { nonterminal = a; number = r.number; rule = record { left = a; right = r.right }; symbol_is = f.at ∙ ap Some is; number_is = r.number_is; rule_is = r.rule; right_is = refl }))
 
 -- ---- one turn of the count
 
-module _ (g : Grammar) (b : ℕ) (closes : List Symbol) (first : List Bool) (predictions : List (Option ℕ)) (lengths : List (Option ℕ)) (are : AreEmptyLengths g lengths) (h : IsPieceOf g first predictions b closes) where
+module _ (g : Grammar) (b : ℕ) (closes : List Symbol) (first : List Bool) (predictions : List (Option ℕ))
+    (lengths : List (Option ℕ)) (are : AreEmptyLengths g lengths) (h : IsPieceOf g first predictions b closes) where
   module _ (form : List Symbol) (sum : ℕ) (k : IsCountedTo g b closes form sum) (place : ℕ) (place_is : place ≡ prefix_len (passes g b (counted lengths) first are.which h.first_is) form) where
     front_here : IsFront g b (counted lengths) form place
     front_here = subst (IsFront g b (counted lengths) form) (sym place_is) (front g b (counted lengths) first are.which h.first_is form k.begins)
@@ -174,6 +188,6 @@ module _ (g : Grammar) (b : ℕ) (closes : List Symbol) (first : List Bool) (pre
           subst (IsCountedTo g b closes right) (sym (next_is ∙ ap (λ n. min (n + 1) (2 ^ 64 - 1)) count_is))
           (counted_next g b closes form sum k place (counted lengths) front_here skipped skipped_is first predictions h right p)
 
-      pub last_turn : ((right : List Symbol) → ¬ IsPredictedRight g predictions form place right) → IsPieceLength g b closes count
+      pub last_turn : HasNoPredictedRight g predictions form place → IsPieceLength g b closes count
       last_turn none =
           subst (IsPieceLength g b closes) (sym count_is) (counted_end g b closes form sum k place (counted lengths) front_here skipped skipped_is first predictions h none)

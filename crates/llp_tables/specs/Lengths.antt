@@ -59,6 +59,10 @@ pub record IsPredictedRight (g : Grammar) (predictions : List (Option ℕ)) (for
   pub rule_is : production g number ≡ Some rule
   pub right_is : right ≡ rule.right
 
+-- there is none
+abbrev pub HasNoPredictedRight : Grammar → List (Option ℕ) → List Symbol → ℕ → Type 0
+HasNoPredictedRight g predictions form place = (right : List Symbol) → ¬ IsPredictedRight g predictions form place right
+
 -- the grammar is LL(1), the symbols are closed by a piece for b, and the sets are those of b
 pub record IsPieceOf (g : Grammar) (first : List Bool) (predictions : List (Option ℕ)) (b : ℕ) (closes : List Symbol) : Type 0 where
   pub ll1 : IsLl1 g

@@ -26,7 +26,8 @@ loop-production-preserved c =
     (elim c.if-is_none.branch [
       | then-is_none+in_default w ↦ λ v. absurd (true≢false (sym v ∙ (ap (all_vanish (counted lengths)) (sym w.right.ensures) ∙ w.in_default.ensures)))
       | else-is_none w ↦ λ v.
-          get_or-counted lengths rule.left ∙ (ap (λ a. is_some (get_or lengths a None)) (sym c.left-left.ensures) ∙ (ap is_some (sym c.length_of.ensures) ∙ (c.is_none.ensures ∙ ap not w.if-is_none.false)))
+          get_or-counted lengths rule.left
+          ∙ (ap (λ a. is_some (get_or lengths a None)) (sym c.left-left.ensures) ∙ (ap is_some (sym c.length_of.ensures) ∙ (c.is_none.ensures ∙ ap not w.if-is_none.false)))
     ])
 
 pub returns : goal.returns

@@ -22,4 +22,5 @@ loop-sum-preserved c lengths h =
 
 pub returns : goal.returns
 returns c lengths h =
-    counted_full c.args.grammar.now c.args.b c.args.closes.now h.ll1 h.member.0 h.member.1 c.loop-sum.form.now c.loop-sum.sum (let end = c.loop-sum-test.false in omega arith) (c.loop-sum.invariant lengths h)
+    counted_full c.args.grammar.now c.args.b c.args.closes.now h.ll1 h.member.0 h.member.1 c.loop-sum.form.now c.loop-sum.sum
+    (let end = c.loop-sum-test.false in omega arith) (c.loop-sum.invariant lengths h)
