@@ -9,7 +9,7 @@ use Rattle.rv_isa.specs.Laws.Stack.{over-length}
 use Rattle.elf_file.specs.Load.{overlap}
 use Rattle.rv32_emul.specs.Stretches.{stretch_of, stretches, AreApart, Covers, IsOnly}
 
-and_left : (a b : Bool) → (a && b) ≡ true → a ≡ true
+pub and_left : (a b : Bool) → (a && b) ≡ true → a ≡ true
 and_left true b h = refl
 and_left false b h = absurd (cc)
 
@@ -17,7 +17,7 @@ no_both : (s e t f a n : ℕ) → overlap s e t f ≡ false → 0 < n → (nat_l
 no_both s e t f a n h some here = grind (arith, nat_tests)
 
 -- an earlier region has nothing of what a later one has
-only : (xs : List Region) (i k a n : ℕ) (d e : Region) → AreApart (stretches xs) → k < i → i < length xs → 0 < n → has (get_or xs i e) a n ≡ true → has (get_or xs k d) a n ≡ false
+pub only : (xs : List Region) (i k a n : ℕ) (d e : Region) → AreApart (stretches xs) → k < i → i < length xs → 0 < n → has (get_or xs i e) a n ≡ true → has (get_or xs k d) a n ≡ false
 only xs i k a n d e apart lt inside some here =
     let at_i : get_or (stretches xs) i (0, 0) ≡ stretch_of (get_or xs i e) = get_or-map stretch_of xs i e (0, 0) inside in
     let at_k : get_or (stretches xs) k (0, 0) ≡ stretch_of (get_or xs k d) = get_or-map stretch_of xs k d (0, 0) (omega arith) in
