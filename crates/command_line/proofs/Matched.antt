@@ -1,6 +1,6 @@
 -- What a parse met, by the words alone.
-use Rattle.std.proofs.Common.{◌≡◌, ◌∙◌, cond, true, refl, sym, ap, ap₂, subst, arith, List, [], ◌∷◌, Option, Some, None, unwrap_or}
-use Rattle.std.specs.Prelude.{option_map}
+use Rattle.std.proofs.Common.{◌≡◌, ◌∙◌, ℕ, Bool, cond, true, false, refl, sym, ap, ap₂, subst, arith, List, [], ◌∷◌, Option, Some, None, unwrap_or}
+use Rattle.std.specs.Prelude.{option_and_then, option_map, is_some}
 use Rattle.std.proofs.lemmas.Bool.{ne_eqb}
 use Rattle.clap.specs.Kinds.{IsAmong, Kinds}
 use Rattle.clap.specs.Simple.{App, HasMatchesOf, is_simple, subcommand_of, subcommand_rows_of}
@@ -8,8 +8,11 @@ use Rattle.clap.specs.Faults.{fault_of, is_simple_and_free}
 use Rattle.clap.specs.Walk.{Text, Row, is_empty}
 use Rattle.clap.specs.declared.parser.matches.ArgMatches.{ArgMatches}
 use Rattle.clap.specs.declared.error.kind.ErrorKind.{ErrorKind}
-use Rattle.command_line.specs.Words.{Asked, app, asked, asked_by}
+use Rattle.command_line.specs.Words.{Asked, app, asked, asked_by, known, unknown_code}
 use Rattle.command_line.specs.Ranges.{HasNumbers}
+use Rattle.command_line.specs.declared.command.Command.{Command}
+use Rattle.command_line.specs.declared.command.Command.TheVariants.{Build, Run, Batch, Emu, Dump, Asm, Table, Drill, Explain}
+use Rattle.diagnostic_texts.specs.Explained.{Explained, explanation_of}
 use Rattle.command_line.proofs.Taken.{taken}
 
 pub app_is_free : is_simple_and_free app ≡ true
@@ -22,11 +25,11 @@ app_is_simple = refl
 pub asked_none : (words : List Text) (k : ErrorKind) → IsAmong k (fault_of app words) → asked words ≡ None
 asked_none words k h = go (fault_of app words) h
   where
-    go : (f : Kinds) → IsAmong k f → cond (is_empty f) (option_map (λ s. asked_by s.0 s.1) (subcommand_of app words)) None ≡ None
+    go : (f : Kinds) → IsAmong k f → cond (is_empty f) (option_and_then (λ s. known (asked_by s.0 s.1)) (subcommand_of app words)) None ≡ None
     go [] h = absurd h
-    go (x ∷ xs) h = ap (λ b. cond b (option_map (λ s. asked_by s.0 s.1) (subcommand_of app words)) None) (ne_eqb _ _ (λ e. absurd (omega arith)))
+    go (x ∷ xs) h = ap (λ b. cond b (option_and_then (λ s. known (asked_by s.0 s.1)) (subcommand_of app words)) None) (ne_eqb _ _ (λ e. absurd (omega arith)))
 
-asked_some : (words : List Text) (s : Text × List Row) → fault_of app words ≡ [] → subcommand_of app words ≡ Some s → asked words ≡ Some (asked_by s.0 s.1)
+asked_some : (words : List Text) (s : Text × List Row) → fault_of app words ≡ [] → subcommand_of app words ≡ Some s → asked words ≡ known (asked_by s.0 s.1)
 asked_some words s none is = rw (none, is) refl
 
 -- the subcommand that was met
@@ -35,7 +38,7 @@ pub record Met (words : List Text) (m : ArgMatches) : Type 0 where
   pub rows : List Row
   pub is_met : subcommand_rows_of m ≡ Some (name, rows)
   pub numbers : HasNumbers rows name
-  pub is_asked : asked words ≡ Some (asked_by name rows)
+  pub is_asked : asked words ≡ known (asked_by name rows)
 
 pub met : (a : App) (ws words : List Text) (m : ArgMatches) → a ≡ app → ws ≡ words → fault_of a ws ≡ [] → HasMatchesOf a ws m → Met words m
 met a ws words m a_is ws_are none has =
@@ -56,7 +59,7 @@ mapped_twice f g (Some x) = refl
 -- what the getter of a subcommand gives
 pub record Got (words : List Text) (name : Text) (rows : List Row) : Type 0 where
   pub numbers : HasNumbers rows name
-  pub is_asked : asked words ≡ Some (asked_by name rows)
+  pub is_asked : asked words ≡ known (asked_by name rows)
 
 pub got : (words : List Text) (m : ArgMatches) (name : Text) (rows : List Row) → Met words m → option_map (λ s. s.0) (subcommand_rows_of m) ≡ Some name
     → option_map (λ s. s.1) (subcommand_rows_of m) ≡ Some rows → Got words name rows
@@ -65,10 +68,59 @@ got words m name rows x name_is rows_is =
     let same_rows : x.rows ≡ rows = ap (λ o. unwrap_or o rows) (sym (ap (option_map (λ s. s.1)) x.is_met) ∙ rows_is) in
     record {
       numbers = subst (λ n. HasNumbers rows n) same_name (subst (λ rs. HasNumbers rs x.name) same_rows x.numbers);
-      is_asked = x.is_asked ∙ ap₂ (λ n rs. Some (asked_by n rs)) same_name same_rows;
+      is_asked = x.is_asked ∙ ap₂ (λ n rs. known (asked_by n rs)) same_name same_rows;
     }
 
-pub taken_asked : (words : List Text) → fault_of app words ≡ [] → (a : Asked) × (asked words ≡ Some a)
+pub taken_asked : (words : List Text) → fault_of app words ≡ [] → (a : Asked) × (asked words ≡ known a)
 taken_asked words none =
     let one = taken words none in
     (asked_by one.0.0 one.0.1, asked_some words one.0 none one.1)
+
+-- ---- codes that no diagnostic has
+
+none_of : (code : ℕ) (o : Option Explained) → is_some (cond {A = Option ℕ} (is_some o) None (Some code)) ≡ true → o ≡ None
+none_of code None h = refl
+none_of code (Some e) h = cc
+
+refused : (b : Bool) (a : Asked) → cond {A = Option Asked} b None (Some a) ≡ None → b ≡ true
+refused true a h = refl
+refused false a h = cc
+
+unknown_to : (c : Command) → is_some (unknown_code c) ≡ true → (code : ℕ) × (c ≡ Explain code) × (explanation_of code ≡ None)
+unknown_to (Build fold) h = cc
+unknown_to (Run steps fold) h = cc
+unknown_to Batch h = cc
+unknown_to (Emu steps) h = cc
+unknown_to Dump h = cc
+unknown_to Asm h = cc
+unknown_to (Table word) h = cc
+unknown_to (Drill seed functions) h = cc
+unknown_to (Explain code) h = (code, refl, none_of code (explanation_of code) h)
+
+-- what isn't asked for is to explain a code that no diagnostic has
+pub unknown : (a : Asked) → known a ≡ None → (code : ℕ) × (a.command ≡ Explain code) × (explanation_of code ≡ None)
+unknown a h = unknown_to a.command (refused (is_some (unknown_code a.command)) a h)
+
+asked_is : {X : Type 0} (f : X → Asked) (b : Bool) (o : Option X) (a : Asked) → cond b (option_and_then (λ s. known (f s)) o) None ≡ Some a → (s : Asked) × (known s ≡ Some a)
+asked_is f true None a h = cc
+asked_is f true (Some s) a h = (f s, h)
+asked_is f false o a h = cc
+
+kept : (s a : Asked) → known s ≡ Some a → is_some (unknown_code a.command) ≡ false
+kept s a h = go (is_some (unknown_code s.command)) refl h
+  where
+    go : (b : Bool) → is_some (unknown_code s.command) ≡ b → cond {A = Option Asked} b None (Some s) ≡ Some a → is_some (unknown_code a.command) ≡ false
+    go true e h = cc
+    go false e h =
+        let same : s ≡ a = ap (λ o. unwrap_or o s) h in
+        ap (λ (x : Asked). is_some (unknown_code x.command)) (sym same) ∙ e
+
+explained : (code : ℕ) (o : Option Explained) → is_some (cond {A = Option ℕ} (is_some o) None (Some code)) ≡ false → is_some o ≡ true
+explained code None h = cc
+explained code (Some e) h = refl
+
+-- what is to be explained has an explanation
+pub asked_code : (words : List Text) (a : Asked) (code : ℕ) → asked words ≡ Some a → a.command ≡ Explain code → is_some (explanation_of code) ≡ true
+asked_code words a code h e =
+    let one = asked_is (λ (s : Text × List Row). asked_by s.0 s.1) (is_empty (fault_of app words)) (subcommand_of app words) a h in
+    explained code (explanation_of code) (ap (λ c. is_some (unknown_code c)) (sym e) ∙ kept one.0 a one.1)

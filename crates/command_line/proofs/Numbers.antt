@@ -6,7 +6,7 @@ use Rattle.std.specs.Result.{IsOk}
 use Rattle.std.specs.Str.Parse.{ParsesUnsigned, digits_value, without_leading_plus}
 use Rattle.clap.specs.Values.{IsUnsignedIn}
 use Rattle.clap.specs.Walk.{Text, Row}
-use Rattle.command_line.specs.Ranges.{HasPlan, HasText, HasNumbers, of_build, of_run, of_batch, of_emu, of_dump, of_asm, of_table, of_drill}
+use Rattle.command_line.specs.Ranges.{HasNumber, HasPlan, HasText, HasNumbers, of_build, of_run, of_batch, of_emu, of_dump, of_asm, of_table, of_drill, of_explain}
 
 pub shown : {X Y : Type 0} (f : X → Y) (o : Option X) (y : Y) → option_map f o ≡ Some y → (x : X) × (o ≡ Some x) × (f x ≡ y)
 shown f None y h = cc
@@ -48,6 +48,9 @@ four_is_not_three e = absurd (omega arith)
 a_is_not_r : ◌≡◌ {A = ℕ} 97 114 → ⊥
 a_is_not_r e = absurd (omega arith)
 
+seven_is_not_three : ◌≡◌ {A = ℕ} 7 3 → ⊥
+seven_is_not_three e = absurd (omega arith)
+
 pub run_plan : (rows : List Row) (name : Text) → HasNumbers rows name → name ≡ codes "run" → HasPlan rows
 run_plan rows name (of_build plan) e = absurd (five_is_not_three (ap length e))
 run_plan rows name (of_run plan steps) e = plan
@@ -57,6 +60,7 @@ run_plan rows name of_dump e = absurd (four_is_not_three (ap length e))
 run_plan rows name of_asm e = absurd (a_is_not_r (ap (λ (t : Text). slice_index t 0) e))
 run_plan rows name of_table e = absurd (five_is_not_three (ap length e))
 run_plan rows name (of_drill text plan) e = absurd (five_is_not_three (ap length e))
+run_plan rows name (of_explain code) e = absurd (seven_is_not_three (ap length e))
 
 three_is_not_five : ◌≡◌ {A = ℕ} 3 5 → ⊥
 three_is_not_five e = absurd (omega arith)
@@ -73,6 +77,9 @@ d_is_not_b e = absurd (omega arith)
 t_is_not_b : ◌≡◌ {A = ℕ} 116 98 → ⊥
 t_is_not_b e = absurd (omega arith)
 
+seven_is_not_five : ◌≡◌ {A = ℕ} 7 5 → ⊥
+seven_is_not_five e = absurd (omega arith)
+
 pub batch_plan : (rows : List Row) (name : Text) → HasNumbers rows name → name ≡ codes "batch" → HasPlan rows
 batch_plan rows name (of_build plan) e = absurd (u_is_not_a (ap (λ (t : Text). slice_index t 1) e))
 batch_plan rows name (of_run plan steps) e = absurd (three_is_not_five (ap length e))
@@ -82,6 +89,7 @@ batch_plan rows name of_dump e = absurd (four_is_not_five (ap length e))
 batch_plan rows name of_asm e = absurd (three_is_not_five (ap length e))
 batch_plan rows name of_table e = absurd (t_is_not_b (ap (λ (t : Text). slice_index t 0) e))
 batch_plan rows name (of_drill text plan) e = absurd (d_is_not_b (ap (λ (t : Text). slice_index t 0) e))
+batch_plan rows name (of_explain code) e = absurd (seven_is_not_five (ap length e))
 
 b_is_not_d : ◌≡◌ {A = ℕ} 98 100 → ⊥
 b_is_not_d e = absurd (omega arith)
@@ -98,3 +106,26 @@ drill_numbers rows name of_dump e = absurd (four_is_not_five (ap length e))
 drill_numbers rows name of_asm e = absurd (three_is_not_five (ap length e))
 drill_numbers rows name of_table e = absurd (t_is_not_d (ap (λ (t : Text). slice_index t 0) e))
 drill_numbers rows name (of_drill text plan) e = (text, plan)
+drill_numbers rows name (of_explain code) e = absurd (seven_is_not_five (ap length e))
+
+three_is_not_seven : ◌≡◌ {A = ℕ} 3 7 → ⊥
+three_is_not_seven e = absurd (omega arith)
+
+four_is_not_seven : ◌≡◌ {A = ℕ} 4 7 → ⊥
+four_is_not_seven e = absurd (omega arith)
+
+five_is_not_seven : ◌≡◌ {A = ℕ} 5 7 → ⊥
+five_is_not_seven e = absurd (omega arith)
+
+pub explain_code : (rows : List Row) (name : Text) → HasNumbers rows name → name ≡ codes "explain" → HasNumber (codes "code") 0 4294967295 rows
+explain_code rows name (of_build plan) e = absurd (five_is_not_seven (ap length e))
+explain_code rows name (of_run plan steps) e = absurd (three_is_not_seven (ap length e))
+explain_code rows name (of_batch plan) e = absurd (five_is_not_seven (ap length e))
+explain_code rows name (of_emu steps) e = absurd (three_is_not_seven (ap length e))
+explain_code rows name of_dump e = absurd (four_is_not_seven (ap length e))
+explain_code rows name of_asm e = absurd (three_is_not_seven (ap length e))
+explain_code rows name of_table e = absurd (five_is_not_seven (ap length e))
+explain_code rows name (of_drill text plan) e = absurd (five_is_not_seven (ap length e))
+explain_code rows name (of_explain code) e =
+    let within = code.in_range.3 in
+    record { text = code.text; is_first = code.is_first; in_range = (code.in_range.0, code.in_range.1, omega arith, omega arith) }

@@ -1,4 +1,4 @@
--- The numbers of options lie in their ranges.
+-- The numbers of options and of values lie in their ranges.
 use Rattle.std.specs.Prelude.{◌≡◌, ℕ, List, Some, codes}
 use Rattle.clap.specs.Values.{IsUnsignedIn}
 use Rattle.clap.specs.Walk.{Text, Row, first_of}
@@ -15,6 +15,9 @@ HasPlan rows = HasNumber (codes "workers") 1 64 rows × HasNumber (codes "chunk"
 abbrev pub HasSteps : List Row → Type 0
 HasSteps rows = HasNumber (codes "steps") 0 1000000000 rows
 
+abbrev pub HasCode : List Row → Type 0
+HasCode rows = HasNumber (codes "code") 100 999 rows
+
 abbrev pub HasText : List Row → Type 0
 HasText rows = HasNumber (codes "seed") 0 4294967295 rows × HasNumber (codes "functions") 1 4096 rows
 
@@ -28,3 +31,4 @@ pub data HasNumbers (rows : List Row) : Text → Type 0 where
   of_asm : HasNumbers rows (codes "asm")
   of_table : HasNumbers rows (codes "table")
   of_drill : HasText rows → HasPlan rows → HasNumbers rows (codes "drill")
+  of_explain : HasCode rows → HasNumbers rows (codes "explain")

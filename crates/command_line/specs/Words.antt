@@ -1,5 +1,5 @@
 -- The program's command line, as a command of `clap`, and what its words ask for.
-use Rattle.std.specs.Prelude.{ℕ, Bool, true, false, List, [], ◌∷◌, Option, Some, None, option_map, codes, unwrap_or, bytes_eq, if◌then◌else◌}
+use Rattle.std.specs.Prelude.{ℕ, Bool, true, false, List, [], ◌∷◌, Option, Some, None, option_and_then, option_map, is_some, codes, unwrap_or, bytes_eq, if◌then◌else◌}
 use Rattle.std.specs.Option.{option_map_or}
 use Rattle.std.specs.Str.Parse.{digits_value, without_leading_plus}
 use Rattle.clap.specs.Walk.{Text, Rule, Row, first_of, one_of, is_empty}
@@ -9,18 +9,22 @@ use Rattle.clap.specs.declared.builder.action.ArgAction.TheVariants.{Set, SetTru
 use Rattle.clap.specs.declared.builder.value_parser.ValueParser.{ValueParser}
 use Rattle.clap.specs.declared.builder.value_parser.ValueParser.TheVariants as parsers
 use Rattle.command_line.specs.declared.command.Command.{Command}
-use Rattle.command_line.specs.declared.command.Command.TheVariants.{Build, Run, Batch, Emu, Dump, Asm, Table, Drill}
+use Rattle.command_line.specs.declared.command.Command.TheVariants.{Build, Run, Batch, Emu, Dump, Asm, Table, Drill, Explain}
+use Rattle.diagnostic_texts.specs.Explained.{explanation_of}
 
 -- ---- the command
 
--- an option `--name N` with a value
-abbrev pub value_option : Text → ValueParser → Rule
-value_option name values = record (new_rule name) {
-  long = Some name;
+-- a value that stands by itself
+abbrev pub plain_value : Text → ValueParser → Rule
+plain_value name values = record (new_rule name) {
   action = Some Set;
   value_names = 1;
   parser = Some values;
 }
+
+-- an option `--name N` with a value
+abbrev pub value_option : Text → ValueParser → Rule
+value_option name values = record (plain_value name values) { long = Some name }
 
 abbrev pub with_default : Rule → Text → Rule
 with_default option default = record option { defaults = default ∷ [] }
@@ -51,6 +55,10 @@ functions_option = required (value_option (codes "functions") (parsers.Unsigned 
 abbrev pub word_option : Rule
 word_option = value_option (codes "word") parsers.String
 
+-- a code is three digits
+abbrev pub code_value : Rule
+code_value = required (plain_value (codes "code") (parsers.Unsigned 100 999))
+
 abbrev pub subcommand : Text → List Rule → Shape
 subcommand name options = record (new_shape name) { rules = options }
 
@@ -78,6 +86,9 @@ table_shape = subcommand (codes "table") (word_option ∷ [])
 abbrev pub drill_shape : Shape
 drill_shape = subcommand (codes "drill") (seed_option ∷ functions_option ∷ workers_option ∷ chunk_option ∷ [])
 
+abbrev pub explain_shape : Shape
+explain_shape = subcommand (codes "explain") (code_value ∷ [])
+
 -- `pareas` before it has subcommands, of which one is required
 abbrev pub bare_app : App
 bare_app = record {
@@ -89,7 +100,7 @@ bare_app = record {
 abbrev pub app : App
 app = record {
   top = record bare_app.top { is_leaf = false };
-  subs = build_shape ∷ run_shape ∷ batch_shape ∷ emu_shape ∷ dump_shape ∷ asm_shape ∷ table_shape ∷ drill_shape ∷ [];
+  subs = build_shape ∷ run_shape ∷ batch_shape ∷ emu_shape ∷ dump_shape ∷ asm_shape ∷ table_shape ∷ drill_shape ∷ explain_shape ∷ [];
 }
 
 -- ---- what words ask for
@@ -112,7 +123,7 @@ abbrev pub shared_out : Command → List Row → Asked
 shared_out command rows =
     record { command = command; workers = number_at (codes "workers") rows; chunk = number_at (codes "chunk") rows }
 
--- what a subcommand asks for with its options; `emu`, `dump`, `asm` and `table` have no options for sharing
+-- what a subcommand asks for with its options; `emu`, `dump`, `asm`, `table` and `explain` have no options for sharing
 abbrev pub asked_by : Text → List Row → Asked
 asked_by name rows =
     if bytes_eq name (codes "build") then shared_out (Build (flag_at (codes "fold") rows)) rows
@@ -122,11 +133,21 @@ asked_by name rows =
     else if bytes_eq name (codes "dump") then record { command = Dump; workers = 1; chunk = 1 }
     else if bytes_eq name (codes "asm") then record { command = Asm; workers = 1; chunk = 1 }
     else if bytes_eq name (codes "drill") then shared_out (Drill (number_at (codes "seed") rows) (number_at (codes "functions") rows)) rows
+    else if bytes_eq name (codes "explain") then record { command = Explain (number_at (codes "code") rows); workers = 1; chunk = 1 }
     else record { command = Table (first_of (codes "word") rows); workers = 1; chunk = 1 }
 
--- what words ask for, of which the first is the program's name; none exactly where clap finds a fault in them
+-- the code that is to be explained, where no diagnostic has it
+abbrev pub unknown_code : Command → Option ℕ
+unknown_code (Explain code) = if is_some (explanation_of code) then None else Some code
+unknown_code command = None
+
+-- what is asked for, unless it is to explain what isn't known
+abbrev pub known : Asked → Option Asked
+known a = if is_some (unknown_code a.command) then None else Some a
+
+-- what words ask for, of which the first is the program's name; none exactly where clap finds a fault in them, or a code isn't known
 abbrev pub asked : List Text → Option Asked
-asked words = if is_empty (fault_of app words) then option_map (λ s. asked_by s.0 s.1) (subcommand_of app words) else None
+asked words = if is_empty (fault_of app words) then option_and_then (λ s. known (asked_by s.0 s.1)) (subcommand_of app words) else None
 
 -- their command alone: what is due depends on nothing else in them
 abbrev pub command_of : List Text → Option Command

@@ -1,12 +1,19 @@
 //! What the definitions say of words.
-ghost use Rattle.std.specs.Prelude.{◌≡◌, ℕ, List, [], ◌∷◌, Some, None, true, false, codes};
+ghost use Rattle.std.specs.Prelude.{◌≡◌, ℕ, List, [], ◌∷◌, Some, None, true, false, codes, is_some};
 ghost use Rattle.clap.specs.Words.{fault_of};
-ghost use Rattle.command_line.specs.declared.command.Command.TheVariants.{Build, Run, Batch, Emu, Dump, Asm, Table, Drill};
-ghost use Rattle.command_line.specs.Words.{Asked, app, asked};
+ghost use Rattle.command_line.specs.declared.command.Command.TheVariants.{Build, Run, Batch, Emu, Dump, Asm, Table, Drill, Explain};
+ghost use Rattle.command_line.specs.Words.{Asked, app, asked, known};
+ghost use Rattle.diagnostic_texts.specs.Explained.{explanation_of};
 
-/// Words in which `clap` finds no fault ask for something.
+/// Words in which `clap` finds no fault ask for something, unless it is to explain a code that no diagnostic has.
 pub fn taken_words_ask()
-    ensures { (words : List (List ℕ)) → fault_of app words ≡ [] → (a : Asked) × (asked words ≡ Some a) }
+    ensures asks { (words : List (List ℕ)) → fault_of app words ≡ [] → (a : Asked) × (asked words ≡ known a) }
+    ensures unless { (a : Asked) → known a ≡ None → (code : ℕ) × (a.command ≡ Explain code) × (explanation_of code ≡ None) }
+{}
+
+/// What is to be explained, has an explanation.
+pub fn asked_codes_are_explained()
+    ensures { (words : List (List ℕ)) (a : Asked) (code : ℕ) → asked words ≡ Some a → a.command ≡ Explain code → is_some (explanation_of code) ≡ true }
 {}
 
 /// What some words ask for.
@@ -31,6 +38,11 @@ pub fn worked_words()
     ensures two_words { asked (codes "pareas" ∷ codes "table" ∷ codes "--word" ∷ codes "a" ∷ codes "--word" ∷ codes "b" ∷ []) ≡ None }
     ensures drill { asked (codes "pareas" ∷ codes "drill" ∷ codes "--seed" ∷ codes "1" ∷ codes "--functions" ∷ codes "2" ∷ []) ≡ Some (record { command = Drill 1 2; workers = 4; chunk = 1024 }) }
     ensures seedless { asked (codes "pareas" ∷ codes "drill" ∷ codes "--functions" ∷ codes "2" ∷ []) ≡ None }
+    ensures explain { asked (codes "pareas" ∷ codes "explain" ∷ codes "504" ∷ []) ≡ Some (record { command = Explain 504; workers = 1; chunk = 1 }) }
+    ensures unknown { asked (codes "pareas" ∷ codes "explain" ∷ codes "304" ∷ []) ≡ None }
+    ensures codeless { asked (codes "pareas" ∷ codes "explain" ∷ []) ≡ None }
+    ensures two_codes { asked (codes "pareas" ∷ codes "explain" ∷ codes "504" ∷ codes "505" ∷ []) ≡ None }
+    ensures explain_shared { asked (codes "pareas" ∷ codes "explain" ∷ codes "504" ∷ codes "--workers" ∷ codes "2" ∷ []) ≡ None }
     ensures bare { asked (codes "pareas" ∷ []) ≡ None }
     ensures too_many { asked (codes "pareas" ∷ codes "build" ∷ codes "--workers" ∷ codes "65" ∷ []) ≡ None }
     ensures help { asked (codes "pareas" ∷ codes "--help" ∷ []) ≡ None }

@@ -9,7 +9,7 @@ mod request;
 mod word;
 
 pub use command::Command;
-pub use laws::{taken_words_ask, worked_words};
+pub use laws::{asked_codes_are_explained, taken_words_ask, worked_words};
 pub use parser::{Refusal, read};
 pub use request::Request;
 pub use word::Word;

@@ -3,11 +3,29 @@
 
 ghost use Rattle.std.specs.Prelude.{◌≡◌, IfOk, false};
 ghost use Rattle.clap.specs.Words.{app_of, rule_of, shape_of};
-ghost use Rattle.command_line.specs.Words.{app, bare_app, build_shape, run_shape, batch_shape, emu_shape, dump_shape, asm_shape, table_shape, drill_shape, workers_option, chunk_option, steps_option, fold_option, seed_option, functions_option, word_option, value_option, with_default, required};
+ghost use Rattle.command_line.specs.Words.{app, bare_app, build_shape, run_shape, batch_shape, emu_shape, dump_shape, asm_shape, table_shape, drill_shape, explain_shape, workers_option, chunk_option, steps_option, fold_option, seed_option, functions_option, word_option, code_value, plain_value, value_option, with_default, required};
 
 use clap::builder::ValueParser;
 use clap::{Arg, ArgAction, Command, value_parser};
 use std::alloc::{AllocError, Global};
+
+// A value that stands by itself.
+fn plain_value<'a>(
+    alloc: Global,
+    name: &'a str,
+    letter: &'a str,
+    values: ValueParser<'a>,
+    help: &'a str,
+) -> Arg<'a>
+    ensures rule { rule_of result ≡ plain_value name.entry.now values.entry }
+    ensures local { result.global ≡ false }
+{
+    Arg::new(alloc, name)
+        .action(ArgAction::Set)
+        .value_name(letter)
+        .value_parser(values)
+        .help(help)
+}
 
 // An option `--name N` with a value.
 fn value_option<'a>(
@@ -20,12 +38,7 @@ fn value_option<'a>(
     ensures rule { rule_of result ≡ value_option name.entry.now values.entry }
     ensures local { result.global ≡ false }
 {
-    Arg::new(alloc, name)
-        .long(name)
-        .action(ArgAction::Set)
-        .value_name(letter)
-        .value_parser(values)
-        .help(help)
+    plain_value(alloc, name, letter, values, help).long(name)
 }
 
 // An option with a number, and its default.
@@ -41,6 +54,20 @@ fn default_option<'a>(
     ensures local { result.global ≡ false }
 {
     value_option(alloc, name, letter, numbers, help).default_value(default)
+}
+
+// A number that stands by itself, and has to be given.
+fn required_value<'a>(
+    alloc: Global,
+    name: &'a str,
+    letter: &'a str,
+    numbers: ValueParser<'a>,
+    help: &'a str,
+) -> Arg<'a>
+    ensures rule { rule_of result ≡ required (plain_value name.entry.now numbers.entry) }
+    ensures local { result.global ≡ false }
+{
+    plain_value(alloc, name, letter, numbers, help).required(true)
 }
 
 // An option with a number, which has to be given.
@@ -118,6 +145,15 @@ fn word<'a>(alloc: Global) -> Arg<'a>
 {
     let help = "Parse this word: names separated by spaces";
     value_option(alloc, "word", "W", value_parser!(String), help)
+}
+
+fn code<'a>(alloc: Global) -> Arg<'a>
+    ensures rule { rule_of result ≡ code_value }
+    ensures local { result.global ≡ false }
+{
+    let numbers = value_parser!(u64).range(100..=999);
+    let help = "What the line of the diagnostic names, as 504 in `error 504 at 2:5`";
+    required_value(alloc, "code", "CODE", numbers, help)
 }
 
 #[inline(never)]
@@ -213,6 +249,17 @@ fn drill<'a>(alloc: Global) -> Result<Command<'a>, AllocError>
         .arg(chunk(alloc))
 }
 
+#[inline(never)]
+fn explain<'a>(alloc: Global) -> Result<Command<'a>, AllocError>
+    ensures { IfOk result (λ c. shape_of c ≡ explain_shape) }
+{
+    Command::new(alloc, "explain")
+        .about(
+            "Explains a diagnostic, as in `pareas explain 504`: prints what it means, a source that has it and how it is mended, reads no input",
+        )
+        .arg(code(alloc))
+}
+
 // The command before it has subcommands.
 #[inline(never)]
 fn bare<'a>(alloc: Global) -> Command<'a>
@@ -239,5 +286,6 @@ pub(crate) fn command<'a>(alloc: Global) -> Result<Command<'a>, AllocError>
         .subcommand(dump(alloc))?
         .subcommand(asm(alloc))?
         .subcommand(table(alloc)?)?
-        .subcommand(drill(alloc)?)
+        .subcommand(drill(alloc)?)?
+        .subcommand(explain(alloc)?)
 }

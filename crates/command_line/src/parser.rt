@@ -3,7 +3,7 @@
 ghost use Rattle.std.specs.Prelude.{◌≡◌, Some, None, IfOk, map, string_bytes, codes, IfErr};
 ghost use Rattle.clap.specs.Words.{first_of, found_of, rows_of, kind_of};
 ghost use Rattle.command_line.specs.Ranges.{HasNumber, HasPlan, HasSteps, HasNumbers};
-ghost use Rattle.command_line.specs.Words.{asked, asked_by, number_at, flag_at};
+ghost use Rattle.command_line.specs.Words.{asked, asked_by, known, number_at, flag_at, unknown_code};
 ghost use Rattle.command_line.specs.Refused.{IsUsage};
 ghost use Rattle.clap.specs.declared.error.kind.ErrorKind.TheVariants as ErrorKind;
 
@@ -14,6 +14,7 @@ use crate::word::Word;
 use chunk_seats::Plan;
 use clap::error::ErrorKind;
 use clap::{ArgMatches, Error};
+use diagnostic_texts::explanation_of;
 use std::alloc::{AllocError, Global};
 
 /// Why words ask for nothing.
@@ -124,6 +125,12 @@ fn request(alloc: Global, name: &str, options: &ArgMatches<'_>) -> Result<Reques
             },
             plan: plan(options),
         },
+        "explain" => Request {
+            command: Command::Explain {
+                code: number(options, "code"),
+            },
+            plan: alone(),
+        },
         _ => Request {
             command: Command::Table {
                 word: word(alloc, options)?,
@@ -132,6 +139,32 @@ fn request(alloc: Global, name: &str, options: &ArgMatches<'_>) -> Result<Reques
         },
     };
     Ok(request)
+}
+
+// The code that is to be explained, where no diagnostic has it.
+fn unknown_code(command: &Command) -> Option<u32>
+    ensures { result ≡ unknown_code command.now }
+{
+    match command {
+        Command::Explain { code } => match explanation_of(*code) {
+            Some(_) => None,
+            None => Some(*code),
+        },
+        _ => None,
+    }
+}
+
+// The request, or why it can't be met: there is nothing to explain.
+fn known(alloc: Global, request: Request) -> Result<Request, Refusal>
+    ensures kept { IfOk result (λ kept. known request ≡ Some kept) }
+    ensures refused { IfErr result (λ refusal. IsUsage refusal → known request ≡ None) }
+{
+    match unknown_code(&request.command) {
+        Some(code) => Err(Refusal::Usage(format!(in alloc;
+            "error: no diagnostic has the code {code}\n\nFor more information, try '--help'.\n"
+        )?)),
+        None => Ok(request),
+    }
 }
 
 // Why clap refused the words.
@@ -159,5 +192,5 @@ pub fn read(alloc: Global, words: &[String]) -> Result<Request, Refusal>
         Err(error) => return Err(refused_by(alloc, &error)),
     };
     let (name, options) = matches.subcommand().unwrap();
-    Ok(request(alloc, name, options)?)
+    known(alloc, request(alloc, name, options)?)
 }

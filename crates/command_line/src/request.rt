@@ -9,7 +9,7 @@ use std::marker::Model;
 pub struct Request {
     /// What is to be done.
     pub command: Command,
-    /// How the work is shared out. No answer depends on it. `emu`, `dump`, `asm` and `table` have no options for it: one thread does their work.
+    /// How the work is shared out. No answer depends on it. `emu`, `dump`, `asm`, `table` and `explain` have no options for it: one thread does their work.
     pub plan: Plan,
 }
 

@@ -1,7 +1,8 @@
 use Rattle.std.proofs.Common.{refl}
 use Rattle.clap.proofs.OnLiterals.{clap_on_literals}
+use Rattle.diagnostic_texts.specs.Explained.{explanations}
 use Rattle.command_line.proofs.laws.worked_words.Goals as goal
 
 pub returns : goal.returns
-unfolding clap_on_literals
-returns c = record { build = refl; fold = refl; fold_run = refl; fold_twice = refl; fold_valued = refl; fold_elsewhere = refl; options = refl; batch = refl; batch_options = refl; fold_batch = refl; emu = refl; dump = refl; asm = refl; table = refl; word = refl; empty_word = refl; valueless = refl; two_words = refl; drill = refl; seedless = refl; bare = refl; too_many = refl; help = refl }
+unfolding clap_on_literals explanations
+returns c = record { build = refl; fold = refl; fold_run = refl; fold_twice = refl; fold_valued = refl; fold_elsewhere = refl; options = refl; batch = refl; batch_options = refl; fold_batch = refl; emu = refl; dump = refl; asm = refl; table = refl; word = refl; empty_word = refl; valueless = refl; two_words = refl; drill = refl; seedless = refl; explain = refl; unknown = refl; codeless = refl; two_codes = refl; explain_shared = refl; bare = refl; too_many = refl; help = refl }

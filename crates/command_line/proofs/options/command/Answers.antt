@@ -16,6 +16,7 @@ returns c =
     let asm_plain = ap (λ (s : Shape). s.is_plain) c.asm.ensures in
     let table_plain = ap (λ (s : Shape). s.is_plain) c.in_ok-table.ensures in
     let drill_plain = ap (λ (s : Shape). s.is_plain) c.in_ok-drill.ensures in
+    let explain_plain = ap (λ (s : Shape). s.is_plain) c.in_ok-explain.ensures in
     let one = c.in_ok-subcommand.ensures.shape (is_not _ (and_parts _ _ (and_parts _ _ (and_parts _ _ build_plain).1).1).0) ∙ ap₂ with_subcommand c.bare.ensures c.in_ok-build.ensures in
     let two = c.in_ok-subcommand-2.ensures.shape (is_not _ (and_parts _ _ (and_parts _ _ (and_parts _ _ run_plain).1).1).0) ∙ ap₂ with_subcommand one c.in_ok-run.ensures in
     let three = c.in_ok-subcommand-3.ensures.shape (is_not _ (and_parts _ _ (and_parts _ _ (and_parts _ _ batch_plain).1).1).0) ∙ ap₂ with_subcommand two c.in_ok-batch.ensures in
@@ -23,6 +24,7 @@ returns c =
     let five = c.in_ok-subcommand-5.ensures.shape (is_not _ (and_parts _ _ (and_parts _ _ (and_parts _ _ dump_plain).1).1).0) ∙ ap₂ with_subcommand four c.dump.ensures in
     let six = c.in_ok-subcommand-6.ensures.shape (is_not _ (and_parts _ _ (and_parts _ _ (and_parts _ _ asm_plain).1).1).0) ∙ ap₂ with_subcommand five c.asm.ensures in
     let seven = c.in_ok-subcommand-7.ensures.shape (is_not _ (and_parts _ _ (and_parts _ _ (and_parts _ _ table_plain).1).1).0) ∙ ap₂ with_subcommand six c.in_ok-table.ensures in
-    IfOk-weaker c.subcommand-8.result _ _
-    (λ m h. h.shape (is_not _ (and_parts _ _ (and_parts _ _ (and_parts _ _ drill_plain).1).1).0) ∙ ap₂ with_subcommand seven c.in_ok-drill.ensures)
-    c.subcommand-8.ensures
+    let eight = c.in_ok-subcommand-8.ensures.shape (is_not _ (and_parts _ _ (and_parts _ _ (and_parts _ _ drill_plain).1).1).0) ∙ ap₂ with_subcommand seven c.in_ok-drill.ensures in
+    IfOk-weaker c.subcommand-9.result _ _
+    (λ m h. h.shape (is_not _ (and_parts _ _ (and_parts _ _ (and_parts _ _ explain_plain).1).1).0) ∙ ap₂ with_subcommand eight c.in_ok-explain.ensures)
+    c.subcommand-9.ensures

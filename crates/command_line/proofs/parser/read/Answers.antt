@@ -1,7 +1,8 @@
 use Rattle.std.proofs.Common.{◌≡◌, ◌∙◌, ap, refl, sym, subst, inl, inr, Some, map, string_bytes}
 use Rattle.std.specs.Prelude.{option_map}
 use Rattle.clap.specs.Words.{app_of, found_of, rows_of, kind_of, is_simple_and_free, fault_of, IsAmong}
-use Rattle.command_line.specs.Words.{app}
+use Rattle.std.proofs.lemmas.Result.{IfErr-weaker, IfOk-weaker}
+use Rattle.command_line.specs.Words.{app, known}
 use Rattle.command_line.proofs.Matched.{app_is_free, asked_none, met, got, mapped_twice}
 use Rattle.command_line.proofs.parser.read.Goals as goal
 
@@ -29,4 +30,15 @@ returns-clause-asked c =
     let one = met _ words words c.in-Ok.matches app_is refl (c.in-Ok.ensures.kinds (ap is_simple_and_free app_is ∙ app_is_free)) c.in-Ok.ensures.matches in
     let name = sym (mapped_twice _ _ _) ∙ sym c.subcommand.ensures.name ∙ ap (option_map (λ p. p.0.now)) c.unwrap.ensures in
     let rows = sym c.subcommand.ensures.rows ∙ ap (option_map (λ p. rows_of (found_of p.1.now))) c.unwrap.ensures in
-    (got words c.in-Ok.matches c.unwrap.result.0.now (rows_of (found_of c.unwrap.result.1.now)) one name rows).is_asked ∙ ap Some (sym c.in_ok-request.ensures)
+    let is_asked = (got words c.in-Ok.matches c.unwrap.result.0.now (rows_of (found_of c.unwrap.result.1.now)) one name rows).is_asked ∙ ap known (sym c.in_ok-request.ensures) in
+    IfOk-weaker c.known.result _ _ (λ request h. is_asked ∙ h) c.known.ensures.kept
+
+pub returns-clause-refused : goal.returns-clause-refused
+returns-clause-refused c =
+    let app_is : app_of c.in_ok-command.command ≡ app = c.in_ok-command.ensures in
+    let words = map string_bytes c.args.words.now in
+    let one = met _ words words c.in-Ok.matches app_is refl (c.in-Ok.ensures.kinds (ap is_simple_and_free app_is ∙ app_is_free)) c.in-Ok.ensures.matches in
+    let name = sym (mapped_twice _ _ _) ∙ sym c.subcommand.ensures.name ∙ ap (option_map (λ p. p.0.now)) c.unwrap.ensures in
+    let rows = sym c.subcommand.ensures.rows ∙ ap (option_map (λ p. rows_of (found_of p.1.now))) c.unwrap.ensures in
+    let is_asked = (got words c.in-Ok.matches c.unwrap.result.0.now (rows_of (found_of c.unwrap.result.1.now)) one name rows).is_asked ∙ ap known (sym c.in_ok-request.ensures) in
+    IfErr-weaker c.known.result _ _ (λ refusal h usage. is_asked ∙ h usage) c.known.ensures.refused

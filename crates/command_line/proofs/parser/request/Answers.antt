@@ -1,5 +1,5 @@
 use Rattle.std.proofs.Common.{rules}
-use Rattle.command_line.proofs.Numbers.{run_plan, batch_plan, drill_numbers}
+use Rattle.command_line.proofs.Numbers.{run_plan, batch_plan, drill_numbers, explain_code}
 use Rattle.command_line.proofs.parser.request.Goals as goal
 
 pub plan-requires-in-run : goal.plan-requires-in-run
@@ -10,3 +10,6 @@ plan-requires-in-batch c = batch_plan _ c.args.name.now c.requires (search rules
 
 pub plan-requires-in-drill : goal.plan-requires-in-drill
 plan-requires-in-drill c = (drill_numbers _ c.args.name.now c.requires (search rules)).1
+
+pub number-requires-in-explain : goal.number-requires-in-explain
+number-requires-in-explain c = explain_code _ c.args.name.now c.requires (search rules)
