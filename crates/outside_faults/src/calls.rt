@@ -43,6 +43,21 @@ pub const RESULTS: &[(&[&str], &[u8], u64, &[u8])] = &[
         0,
         b"source 144\ntokens 61\nimage 296\nexit 650\n",
     ),
+    (
+        &["explain", "405"],
+        SEVEN,
+        0,
+        b"\
+error 405: there is no function `main`
+place: the end
+
+    fn start(): int { return 0; }
+
+The answer to this source is \"error 405 at 2:1\".
+
+Execution starts at main, so a program has to have it: fn main(): int { .. }.
+",
+    ),
 ];
 
 /// The words behind the program's name, and the bytes of the input.

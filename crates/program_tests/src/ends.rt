@@ -52,7 +52,19 @@ const SECOND_WRITE_FAILS: Ends = Ends {
     failing_writes: &[2],
 };
 
-/// Calls of which a read or a write fails: the words, the input, the ends, the status and the result. A drill reads nothing.
+/// What is said of a program without `main`.
+const NO_MAIN: &[u8] = b"\
+error 405: there is no function `main`
+place: the end
+
+    fn start(): int { return 0; }
+
+The answer to this source is \"error 405 at 2:1\".
+
+Execution starts at main, so a program has to have it: fn main(): int { .. }.
+";
+
+/// Calls of which a read or a write fails: the words, the input, the ends, the status and the result. A drill and an explanation read nothing.
 const ENDS_THAT_FAIL: &[(&[&str], &[u8], Ends, Status, &[u8])] = &[
     (&["build"], SEVEN, FIRST_READ_FAILS, Status::ReadFault, b""),
     (&["build"], b"", FIRST_WRITE_FAILS, Status::WriteFault, b""),
@@ -62,6 +74,13 @@ const ENDS_THAT_FAIL: &[(&[&str], &[u8], Ends, Status, &[u8])] = &[
         FIRST_READ_FAILS,
         Status::Done,
         b"source 144\ntokens 61\nimage 296\nexit 650\n",
+    ),
+    (
+        &["explain", "405"],
+        SEVEN,
+        FIRST_READ_FAILS,
+        Status::Done,
+        NO_MAIN,
     ),
 ];
 
@@ -97,7 +116,7 @@ fn expect_unread<R: Abort>(rt: &R, input: &mut MemoryIn, bytes: &[u8]) {
     assert_eq!(rt; &buffer[..count.min(64)], bytes);
 }
 
-/// Calls that read nothing: the words, the status, the result, and how the notes begin. Words are refused so, and a drill has no input.
+/// Calls that read nothing: the words, the status, the result, and how the notes begin. Words are refused so, and a drill and an explanation have no input.
 const WITHOUT_INPUT: &[(&[&str], Status, &[u8], &[u8])] = &[
     (
         &[],
@@ -154,6 +173,13 @@ const WITHOUT_INPUT: &[(&[&str], Status, &[u8], &[u8])] = &[
         Status::Done,
         b"source 144\ntokens 61\nimage 296\nexit 650\n",
         b"",
+    ),
+    (&["explain", "405"], Status::Done, NO_MAIN, b""),
+    (
+        &["explain", "304"],
+        Status::Usage,
+        b"",
+        b"error: no diagnostic has the code 304\n",
     ),
 ];
 

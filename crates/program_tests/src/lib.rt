@@ -10,6 +10,8 @@ mod commands;
 #[cfg(test)]
 mod ends;
 #[cfg(test)]
+mod explanations;
+#[cfg(test)]
 mod folds;
 #[cfg(test)]
 mod overlap;

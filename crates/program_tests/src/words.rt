@@ -80,6 +80,21 @@ const LINES: &[(&str, &str)] = &[
         "pareas drill --functions 4096 --chunk 7 --seed 4294967295 --workers 64",
         "Drill { seed: 4294967295, functions: 4096 } 64 7",
     ),
+    ("pareas explain 504", "Explain { code: 504 } 1 1"),
+    ("pareas explain +603", "Explain { code: 603 } 1 1"),
+    ("pareas explain -- 101", "Explain { code: 101 } 1 1"),
+    ("pareas explain", ""),
+    ("pareas explain 304", ""),
+    ("pareas explain 504 505", ""),
+    ("pareas explain 5040", ""),
+    ("pareas explain 50", ""),
+    ("pareas explain -504", ""),
+    ("pareas explain all", ""),
+    ("pareas explain --code 504", ""),
+    ("pareas explain 504 --workers 2", ""),
+    ("pareas explain --steps 1 504", ""),
+    ("pareas 504", ""),
+    ("pareas build 504", ""),
     ("pareas drill --seed 1 --functions 0", ""),
     ("pareas drill --seed 1 --functions 4097", ""),
     ("pareas drill --seed 4294967296 --functions 1", ""),
@@ -169,10 +184,15 @@ const REFUSALS: &[(&str, &str)] = &[
     ("pareas help asm", ASM_HELP),
     ("pareas help table", TABLE_HELP),
     ("pareas help drill", DRILL_HELP),
+    ("pareas help explain", EXPLAIN_HELP),
     ("pareas --version", "pareas 0.1.0\n"),
     ("pareas", NO_COMMAND),
     ("pareas bild", UNKNOWN_COMMAND),
     ("pareas asm --steps 1", UNKNOWN_OPTION),
+    ("pareas explain", NO_CODE),
+    ("pareas explain 304", UNKNOWN_CODE),
+    ("pareas explain 50", CODE_OUT_OF_RANGE),
+    ("pareas explain all", NO_NUMBER),
 ];
 
 #[test]
@@ -190,15 +210,16 @@ A parallel compiler of a small C-like language to RV32IM, proved correct, and an
 Usage: pareas <COMMAND>
 
 Commands:
-  build  Compiles a program: source on standard input, ELF file for RV32IM on standard output
-  run    Compiles a program from standard input and runs it on the emulator: prints its output and how it ends
-  batch  Compiles many programs: sources on standard input, each behind its length, an ELF file or a diagnostic for each on standard output
-  emu    Runs an ELF file for RV32IM from standard input on the emulator: prints its output and how it ends
-  dump   Lists the code of an ELF file for RV32IM from standard input: prints a line for each word
-  asm    Assembles a listing as `dump` prints it: lines on standard input, ELF file for RV32IM on standard output
-  table  Makes the LLP tables of a grammar from standard input: prints their sizes and the parse of a word, or a conflict
-  drill  Compiles and runs a program made from a seed, as in `pareas drill --seed 1 --functions 2`: prints sizes and how it ends, reads no input
-  help   Print this message or the help of the given subcommand(s)
+  build    Compiles a program: source on standard input, ELF file for RV32IM on standard output
+  run      Compiles a program from standard input and runs it on the emulator: prints its output and how it ends
+  batch    Compiles many programs: sources on standard input, each behind its length, an ELF file or a diagnostic for each on standard output
+  emu      Runs an ELF file for RV32IM from standard input on the emulator: prints its output and how it ends
+  dump     Lists the code of an ELF file for RV32IM from standard input: prints a line for each word
+  asm      Assembles a listing as `dump` prints it: lines on standard input, ELF file for RV32IM on standard output
+  table    Makes the LLP tables of a grammar from standard input: prints their sizes and the parse of a word, or a conflict
+  drill    Compiles and runs a program made from a seed, as in `pareas drill --seed 1 --functions 2`: prints sizes and how it ends, reads no input
+  explain  Explains a diagnostic, as in `pareas explain 504`: prints what it means, a source that has it and how it is mended, reads no input
+  help     Print this message or the help of the given subcommand(s)
 
 Options:
   -h, --help     Print help
@@ -292,9 +313,21 @@ Options:
   -h, --help           Print help
 ";
 
+const EXPLAIN_HELP: &str = "\
+Explains a diagnostic, as in `pareas explain 504`: prints what it means, a source that has it and how it is mended, reads no input
+
+Usage: pareas explain <CODE>
+
+Arguments:
+  <CODE>  What the line of the diagnostic names, as 504 in `error 504 at 2:5`
+
+Options:
+  -h, --help  Print help
+";
+
 const NO_COMMAND: &str = "\
 error: 'pareas' requires a subcommand but one was not provided
-  [subcommands: build, run, batch, emu, dump, asm, table, drill, help]
+  [subcommands: build, run, batch, emu, dump, asm, table, drill, explain, help]
 
 Usage: pareas <COMMAND>
 
@@ -315,6 +348,33 @@ const UNKNOWN_OPTION: &str = "\
 error: unexpected argument '--steps' found
 
 Usage: pareas asm
+
+For more information, try '--help'.
+";
+
+const NO_CODE: &str = "\
+error: the following required arguments were not provided:
+  <CODE>
+
+Usage: pareas explain <CODE>
+
+For more information, try '--help'.
+";
+
+const UNKNOWN_CODE: &str = "\
+error: no diagnostic has the code 304
+
+For more information, try '--help'.
+";
+
+const CODE_OUT_OF_RANGE: &str = "\
+error: invalid value '50' for '<CODE>': 50 is not in 100..=999
+
+For more information, try '--help'.
+";
+
+const NO_NUMBER: &str = "\
+error: invalid value 'all' for '<CODE>': invalid digit found in string
 
 For more information, try '--help'.
 ";
