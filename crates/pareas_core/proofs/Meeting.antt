@@ -2,6 +2,7 @@
 use Rattle.std.proofs.Common.{◌≡◌, ℕ, zero, suc, ◌<◌, ◌≤◌, ◌⊎◌, Bool, true, false, inl, inr, arith, List, [], ◌∷◌, ◌++◌, length, take, drop, Option, Some, None, Result, Ok, Err, refl, sym, ap, ◌∙◌, subst}
 use Rattle.std.proofs.lemmas.List.{append-nil}
 use Rattle.std.specs.Io.KnownBytes.{Appends}
+use Rattle.diagnostic_texts.specs.Explained.{explanation_text}
 use Rattle.drill_source.specs.Drill.{drill_text}
 use Rattle.front_end.specs.Front.{IsRefusedBy}
 use Rattle.front_end.specs.declared.refusal.Refusal.{Refusal}
@@ -11,7 +12,7 @@ use Rattle.verdict.specs.Verdict.{Verdict, Diagnosed, Limited, Accepted, IsVerdi
 use Rattle.pareas_core.specs.declared.status.Status.{Status}
 use Rattle.pareas_core.specs.declared.status.Status.TheVariants as statuses
 use Rattle.command_line.specs.declared.command.Command.{Command}
-use Rattle.command_line.specs.declared.command.Command.TheVariants.{Build, Run, Emu, Dump, Asm, Table, Drill}
+use Rattle.command_line.specs.declared.command.Command.TheVariants.{Build, Run, Emu, Dump, Asm, Table, Drill, Explain}
 use Rattle.elf_file.specs.Image.{elf}
 use Rattle.elf_file.specs.declared.fault.ElfFault.{ElfFault}
 use Rattle.elf_text.specs.Listing.{dumped, file_of_text}
@@ -22,7 +23,7 @@ use Rattle.simulation.specs.Behaves.{Behaves, IsFaulty, Overruns}
 use Rattle.table_text.specs.Answers.{IsTableAnswer}
 use Rattle.table_text.specs.declared.answer.TableAnswer.{TableAnswer}
 use Rattle.table_text.specs.declared.answer.TableAnswer.TheVariants as answers
-use Rattle.pareas_core.specs.Output.{Due, done, due_of_verdict, due_of_machine, due_of_dump, due_of_asm, due_of_drill, drill_lines, drill_steps, due_of_table, status_of, IsDue, built, ran, batched, bad_batch, emulated, listed, assembled, tabled, drilled}
+use Rattle.pareas_core.specs.Output.{Due, done, due_of_verdict, due_of_machine, due_of_dump, due_of_asm, due_of_drill, drill_lines, drill_steps, due_of_table, status_of, IsDue, built, ran, batched, bad_batch, emulated, listed, assembled, tabled, drilled, explained}
 use Rattle.pareas_core.specs.Reading.{WritesPrefix}
 use Rattle.pareas_core.specs.Headline.{CompilesTo, RunsAs, Runs, what_was_read, what_was_made, HasRun, reads, read_by, End, HasFailed, HasWorked, GotPrefix, IsWritten, IsAnswer, MeetsWords}
 use Rattle.pareas_core.specs.Responses.{HasRead, IsToldOf, IsResponse, IsDelivered, whole, broken_off}
@@ -113,6 +114,9 @@ no_asm_run wanted bytes source steps r = elim r [ ]
 
 no_table_run : (word : Option (List ℕ)) (wanted : Bool) (bytes source : List ℕ) (steps : ℕ) → Runs (Table word) bytes wanted source steps → ⊥
 no_table_run word wanted bytes source steps r = elim r [ ]
+
+no_explain_run : (code : ℕ) (wanted : Bool) (bytes source : List ℕ) (steps : ℕ) → Runs (Explain code) bytes wanted source steps → ⊥
+no_explain_run code wanted bytes source steps r = elim r [ ]
 
 -- an image that was built
 -- a build folds or doesn't, as its word says
@@ -262,6 +266,19 @@ tables word bytes answer d one is same = record {
   ran = λ wanted source n runs h. absurd (no_table_run word wanted bytes source n runs);
 }
 
+-- ---- an explanation
+
+explain_due : (code : ℕ) (bytes : List ℕ) (e : Due) → IsDue (Explain code) bytes e → e ≡ done (explanation_text code)
+explain_due code bytes _ explained = refl
+
+pub explains : (code : ℕ) (bytes : List ℕ) (d : Due) → d ≡ done (explanation_text code) → IsResponse (Explain code) bytes d
+explains code bytes d is = record {
+  due = subst (IsDue (Explain code) bytes) (sym is) explained;
+  only = λ e h. explain_due code bytes e h ∙ sym is;
+  built = λ wanted build is_done. let e : Explain code ≡ Build wanted = build in cc;
+  ran = λ wanted source n runs h. absurd (no_explain_run code wanted bytes source n runs);
+}
+
 -- ---- what the outputs got
 
 pub got : (before after : Option (List ℕ)) (bytes : List ℕ) → Appends before after bytes → (old : List ℕ) → before ≡ Some old → after ≡ Some (old ++ bytes)
@@ -341,6 +358,7 @@ outcome _ bytes _ (drilled {seed = seed} {functions = functions} {v = v} is) =
 outcome _ bytes _ (batched is answers) = tt
 outcome _ bytes _ (bad_batch is) = tt
 outcome _ bytes _ (emulated {steps = steps}) = machine_outcome [] (machine bytes steps)
+outcome _ bytes _ explained = tt
 outcome _ bytes _ listed = dump_outcome (dumped bytes)
 outcome _ bytes _ assembled = asm_outcome (file_of_text bytes)
 outcome _ bytes _ (tabled {answer = answer} is) = table_outcome answer

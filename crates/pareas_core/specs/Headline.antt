@@ -9,7 +9,7 @@ use Rattle.pareas_core.specs.declared.status.Status.{Status}
 use Rattle.pareas_core.specs.declared.status.Status.TheVariants as statuses
 use Rattle.pareas_core.specs.Causes.{Rose, Stayed}
 use Rattle.command_line.specs.declared.command.Command.{Command}
-use Rattle.command_line.specs.declared.command.Command.TheVariants.{Build, Run, Batch, Emu, Dump, Asm, Table, Drill}
+use Rattle.command_line.specs.declared.command.Command.TheVariants.{Build, Run, Batch, Emu, Dump, Asm, Table, Drill, Explain}
 use Rattle.elf_file.specs.Load.{most as most_image}
 use Rattle.batch_records.specs.Batch.{IsBatch, most_batch}
 use Rattle.batch_records.specs.Answering.{Answered}
@@ -54,6 +54,7 @@ pub data Runs : Command → List ℕ → Bool → List ℕ → ℕ → Type 0 wh
 -- whether a command reads the input
 abbrev pub reads : Command → Bool
 reads (Drill seed functions) = false
+reads (Explain code) = false
 reads _ = true
 
 -- the most bytes that a command takes
@@ -66,6 +67,7 @@ most_bytes Dump = most_image
 most_bytes Asm = most_listing
 most_bytes (Table word) = most_grammar
 most_bytes (Drill seed functions) = 0
+most_bytes (Explain code) = 0
 
 -- the bytes that a command reads: those of the input, up to one past its limit
 abbrev pub read_by : Command → List ℕ → List ℕ
@@ -127,7 +129,7 @@ pub record MeetsWords (words : Option Command) (input out notes : End) (status :
   pub usage : words ≡ None → (status ≡ statuses.Usage) ⊎ (status ≡ statuses.NoMemory) ⊎ (status ≡ statuses.WriteFault)
   pub usage_only : status ≡ statuses.Usage → words ≡ None
   pub unread : words ≡ None → (input.after ≡ input.before) × (input.faults_after ≡ input.faults_before)
-  -- nor is anything read for a drill
+  -- nor is anything read for a drill or an explanation
   pub undisturbed : (c : Command) → words ≡ Some c → reads c ≡ false → (input.after ≡ input.before) × (input.faults_after ≡ input.faults_before)
   pub no_output : words ≡ None → Got out []
   -- a read that failed

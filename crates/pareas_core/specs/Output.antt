@@ -3,11 +3,12 @@ use Rattle.std.specs.Prelude.{ℕ, ◌+◌, ◌-◌, Bool, false, List, [], ◌�
 use Rattle.std.specs.Fmt.{signed_decimal, digits}
 use Rattle.std.specs.List.{flat_map}
 use Rattle.command_line.specs.declared.command.Command.{Command}
-use Rattle.command_line.specs.declared.command.Command.TheVariants.{Build, Run, Batch, Emu, Dump, Asm, Table, Drill}
+use Rattle.command_line.specs.declared.command.Command.TheVariants.{Build, Run, Batch, Emu, Dump, Asm, Table, Drill, Explain}
 use Rattle.batch_records.specs.Batch.{IsBatch, IsBatchFault, fault_text}
 use Rattle.batch_records.specs.Answering.{Answered, all_bytes}
 use Rattle.batch_records.specs.declared.answer.AnswerKind.TheVariants as kinds
 use Rattle.batch_records.specs.declared.fault.BatchFault.{BatchFault}
+use Rattle.diagnostic_texts.specs.Explained.{explanation_text}
 use Rattle.drill_source.specs.Drill.{drill_text}
 use Rattle.rv_isa.specs.Word.{signed}
 use Rattle.rv_isa.specs.declared.hart.FaultKind.{FaultKind}
@@ -174,3 +175,4 @@ pub data IsDue : Command → List ℕ → Due → Type 0 where
   drilled : {seed functions : ℕ} {bytes : List ℕ} {v : Verdict} → IsVerdict false (drill_text seed functions) v →
       IsDue (Drill seed functions) bytes
       (due_of_verdict (λ p. due_of_drill (drill_text seed functions) (image p)) (drill_text seed functions) v)
+  explained : {code : ℕ} {bytes : List ℕ} → IsDue (Explain code) bytes (done (explanation_text code))

@@ -7,6 +7,7 @@ mod coding;
 mod compiler;
 mod drill;
 mod ends;
+mod explain;
 mod laws;
 mod listing;
 mod machine;

@@ -40,7 +40,7 @@ fn limit_of(command: &Command) -> usize
         Command::Emu { .. } | Command::Dump => MOST_IMAGE,
         Command::Asm => MOST_LISTING,
         Command::Table { .. } => MOST_GRAMMAR,
-        Command::Drill { .. } => 0,
+        Command::Drill { .. } | Command::Explain { .. } => 0,
     }
 }
 
@@ -48,7 +48,7 @@ fn limit_of(command: &Command) -> usize
 fn reads(command: &Command) -> bool
     ensures { result ≡ reads command.now }
 {
-    !matches!(command, Command::Drill { .. })
+    !matches!(command, Command::Drill { .. } | Command::Explain { .. })
 }
 
 // What the command reads of the input.

@@ -10,6 +10,7 @@ use crate::batch::batch;
 use crate::compiler::compile;
 use crate::drill::drill;
 use crate::ends::ByteOut;
+use crate::explain::explain;
 use crate::listing::{asm, dump};
 use crate::machine::emulate;
 use crate::position::{error_line, limit_line};
@@ -122,6 +123,7 @@ pub(crate) fn respond<R: Threads + Sync, G: Gate>(
         Command::Asm => asm(crew.alloc, bytes),
         Command::Table { word } => table(crew, bytes, word),
         Command::Drill { seed, functions } => drill(crew, *seed, *functions),
+        Command::Explain { code } => explain(crew.alloc, *code),
     }
 }
 

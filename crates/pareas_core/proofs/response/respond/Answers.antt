@@ -16,3 +16,7 @@ returns-in-Emu g c =
 pub returns-in-Drill : goal.returns-in-Drill
 returns-in-Drill g c =
     subst (λ k. IfOk c.drill.result (λ d. IsResponse k c.args.bytes.now d)) (sym c.in-Drill.is) (c.drill.ensures c.args.bytes.now)
+
+pub returns-in-Explain : goal.returns-in-Explain
+returns-in-Explain g c =
+    subst (λ k. IfOk c.explain.result (λ d. IsResponse k c.args.bytes.now d)) (sym c.in-Explain.is) (c.explain.ensures c.args.bytes.now)
