@@ -16,10 +16,11 @@ loop-part-preserved c =
     let k = length ys in
     let at = next_stands c.args.parts.items ys part rest is in
     let found = c.requires.each k part at in
-    let more : suc k ≡ length (ys ++ part ∷ []) = (let n = length-append ys (part ∷ []) in omega arith) in
-    (append_assoc ys (part ∷ []) rest ∙ is,
-    subst (λ (n : ℕ). AreTies (ties_before lows ends n) c.append.new.all) more
-    (ties_next lows ends k c.loop-part.all part c.append.new.all c.loop-part.invariant.1 found c.in_ok-append.ensures.parents c.in_ok-append.ensures.lows c.in_ok-append.ensures.places c.in_ok-append.ensures.counts))
+    let more : suc k ≡ length (ys ++ part ∷ []) = (let n = length-append ys (part ∷ []) in omega arith) in (
+      append_assoc ys (part ∷ []) rest ∙ is,
+      subst (λ (n : ℕ). AreTies (ties_before lows ends n) c.append.new.all) more
+          (ties_next lows ends k c.loop-part.all part c.append.new.all c.loop-part.invariant.1 found c.in_ok-append.ensures.parents c.in_ok-append.ensures.lows c.in_ok-append.ensures.places c.in_ok-append.ensures.counts),
+    )
 
 pub returns : goal.returns
 returns c =

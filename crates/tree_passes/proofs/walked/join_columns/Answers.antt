@@ -21,11 +21,12 @@ loop-part-preserved c =
     let at = next_stands c.args.parts.items ys part rest is in
     let there = slice_get_within c.args.parts.items (length ys) part at in
     let many = c.requires.many in
-    let more : suc (length ys) ≡ length (ys ++ part ∷ []) = (let n = length-append ys (part ∷ []) in omega arith) in
-    (append_assoc ys (part ∷ []) rest ∙ is,
-    subst (λ (n : ℕ). AreColumnsBefore text numbers ends n c.append.new.all.kinds.items c.append.new.all.lows.items c.append.new.all.tokens.items) more
-    (columns_next text numbers ends c.requires.cut (length ys) (omega arith) c.loop-part.all.kinds.items part.kinds.items c.append.new.all.kinds.items c.loop-part.all.lows.items part.lows.items c.append.new.all.lows.items c.loop-part.all.tokens.items part.tokens.items c.append.new.all.tokens.items
-    c.loop-part.invariant.1 (c.requires.each (length ys) part at) c.in_ok-append.ensures.kinds c.in_ok-append.ensures.lows c.in_ok-append.ensures.tokens))
+    let more : suc (length ys) ≡ length (ys ++ part ∷ []) = (let n = length-append ys (part ∷ []) in omega arith) in (
+      append_assoc ys (part ∷ []) rest ∙ is,
+      subst (λ (n : ℕ). AreColumnsBefore text numbers ends n c.append.new.all.kinds.items c.append.new.all.lows.items c.append.new.all.tokens.items) more
+          (columns_next text numbers ends c.requires.cut (length ys) (omega arith) c.loop-part.all.kinds.items part.kinds.items c.append.new.all.kinds.items c.loop-part.all.lows.items part.lows.items c.append.new.all.lows.items c.loop-part.all.tokens.items part.tokens.items c.append.new.all.tokens.items
+          c.loop-part.invariant.1 (c.requires.each (length ys) part at) c.in_ok-append.ensures.kinds c.in_ok-append.ensures.lows c.in_ok-append.ensures.tokens),
+    )
 
 pub returns-then-len-eq1 : goal.returns-then-len-eq1
 returns-then-len-eq1 c =
