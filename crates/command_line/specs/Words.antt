@@ -3,7 +3,7 @@ use Rattle.std.specs.Prelude.{ℕ, Bool, true, false, List, [], ◌∷◌, Optio
 use Rattle.std.specs.Option.{option_map_or}
 use Rattle.std.specs.Str.Parse.{digits_value, without_leading_plus}
 use Rattle.clap.specs.Walk.{Text, Rule, Row, first_of, one_of, is_empty}
-use Rattle.clap.specs.Simple.{Shape, App, new_shape, new_rule, subcommand_of}
+use Rattle.clap.specs.Simple.{Shape, App, new_shape, new_rule, subcommand_of, with_subcommand}
 use Rattle.clap.specs.Faults.{fault_of}
 use Rattle.clap.specs.declared.builder.action.ArgAction.TheVariants.{Set, SetTrue}
 use Rattle.clap.specs.declared.builder.value_parser.ValueParser.{ValueParser}
@@ -88,6 +88,9 @@ drill_shape = subcommand (codes "drill") (seed_option ∷ functions_option ∷ w
 
 abbrev pub explain_shape : Shape
 explain_shape = subcommand (codes "explain") (code_value ∷ [])
+
+abbrev pub with_three : App → Shape → Shape → Shape → App
+with_three command one two three = with_subcommand (with_subcommand (with_subcommand command one) two) three
 
 -- `pareas` before it has subcommands, of which one is required
 abbrev pub bare_app : App

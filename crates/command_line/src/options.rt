@@ -3,7 +3,7 @@
 
 ghost use Rattle.std.specs.Prelude.{◌≡◌, IfOk, false};
 ghost use Rattle.clap.specs.Words.{app_of, rule_of, shape_of};
-ghost use Rattle.command_line.specs.Words.{app, bare_app, build_shape, run_shape, batch_shape, emu_shape, dump_shape, asm_shape, table_shape, drill_shape, explain_shape, workers_option, chunk_option, steps_option, fold_option, seed_option, functions_option, word_option, code_value, plain_value, value_option, with_default, required};
+ghost use Rattle.command_line.specs.Words.{app, with_three, bare_app, build_shape, run_shape, batch_shape, emu_shape, dump_shape, asm_shape, table_shape, drill_shape, explain_shape, workers_option, chunk_option, steps_option, fold_option, seed_option, functions_option, word_option, code_value, plain_value, value_option, with_default, required};
 
 use clap::builder::ValueParser;
 use clap::{Arg, ArgAction, Command, value_parser};
@@ -273,19 +273,45 @@ fn bare<'a>(alloc: Global) -> Command<'a>
         .subcommand_required(true)
 }
 
+// The same with the subcommands that compile. Three are added in a stack frame of their own.
+#[inline(never)]
+fn with_compilers<'a>(alloc: Global, command: Command<'a>) -> Result<Command<'a>, AllocError>
+    ensures { IfOk result (λ c. app_of c ≡ with_three (app_of command.entry) build_shape run_shape batch_shape) }
+{
+    command
+        .subcommand(build(alloc)?)?
+        .subcommand(run(alloc)?)?
+        .subcommand(batch(alloc)?)
+}
+
+// The same with the subcommands about executable files.
+#[inline(never)]
+fn with_files<'a>(alloc: Global, command: Command<'a>) -> Result<Command<'a>, AllocError>
+    ensures { IfOk result (λ c. app_of c ≡ with_three (app_of command.entry) emu_shape dump_shape asm_shape) }
+{
+    command
+        .subcommand(emu(alloc)?)?
+        .subcommand(dump(alloc))?
+        .subcommand(asm(alloc))
+}
+
+// The same with the other subcommands.
+#[inline(never)]
+fn with_others<'a>(alloc: Global, command: Command<'a>) -> Result<Command<'a>, AllocError>
+    ensures { IfOk result (λ c. app_of c ≡ with_three (app_of command.entry) table_shape drill_shape explain_shape) }
+{
+    command
+        .subcommand(table(alloc)?)?
+        .subcommand(drill(alloc)?)?
+        .subcommand(explain(alloc)?)
+}
+
 /// The command line as `clap` reads it.
 #[inline(never)]
 pub(crate) fn command<'a>(alloc: Global) -> Result<Command<'a>, AllocError>
     ensures { IfOk result (λ c. app_of c ≡ app) }
 {
-    bare(alloc)
-        .subcommand(build(alloc)?)?
-        .subcommand(run(alloc)?)?
-        .subcommand(batch(alloc)?)?
-        .subcommand(emu(alloc)?)?
-        .subcommand(dump(alloc))?
-        .subcommand(asm(alloc))?
-        .subcommand(table(alloc)?)?
-        .subcommand(drill(alloc)?)?
-        .subcommand(explain(alloc)?)
+    let command = with_compilers(alloc, bare(alloc))?;
+    let command = with_files(alloc, command)?;
+    with_others(alloc, command)
 }

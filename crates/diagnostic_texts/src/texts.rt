@@ -24,7 +24,7 @@ fn main(): int {
 ",
         Some((2, 13)),
         "\
-Take the byte away, or write in its place what the language has. All numbers
+Remove the byte, or replace it by something that the language has. All numbers
 are whole, and there are no texts: \"a\" and 'a' begin no lexeme either.
 ",
     ),
@@ -55,9 +55,9 @@ fn main(): int {
 ",
         Some((3, 5)),
         "\
-Look at what stands before the place: mostly a mark is missing there, as the ;
-behind the 1 here. It may also be that what stands at the place is too much, or
-that it is a keyword where a name is wanted. A call has square brackets: f[1].
+Look at what comes before the place: usually something is missing there, like
+the ; after the 1 here. What stands at the place may also be one too many, or a
+keyword where a name is wanted. A call has square brackets: f[1].
 ",
     ),
     (
@@ -125,8 +125,8 @@ fn main(): int { return twice[4]; }
 ",
         Some((2, 4)),
         "\
-Give one of the two another name, or take it away. That their parameters differ
-is not enough: a function is known by its name alone.
+Give one of the two another name, or remove it. Different parameters are not
+enough: a function is known by its name alone.
 ",
     ),
     (
@@ -172,8 +172,8 @@ fn main(): int { return duoble[4]; }
 ",
         Some((2, 25)),
         "\
-Check the spelling, or define the function. Its definition may stand before or
-behind the call.
+Check the spelling, or define the function. Its definition may come before or
+after the call.
 ",
     ),
     (
@@ -272,7 +272,7 @@ fn main(): int { return 0; }
 ",
         Some((1, 32)),
         "\
-Return a value of the type that stands behind the parameters: here return
+Return a value of the type that is written after the parameters: here, return
 n % 2 == 0. Or change that type, and the calls with it.
 ",
     ),
@@ -318,7 +318,7 @@ space count, too.
 ",
         None,
         "\
-Make the source shorter. What stands in it many times can be one function.
+Make the source shorter. Statements that it repeats can become one function.
 ",
     ),
     (
@@ -345,8 +345,8 @@ four instructions of four bytes.
 ",
         None,
         "\
-Write a loop, or a function that is called many times, in the place of
-statements that stand there many times.
+Replace statements that are repeated many times by a loop, or by a function that
+is called.
 ",
     ),
 ];

@@ -1,0 +1,17 @@
+use Rattle.std.proofs.Common.{◌∙◌, ap, ap₂}
+use Rattle.std.proofs.lemmas.Bool.{and_parts}
+use Rattle.std.proofs.lemmas.Result.{IfOk-weaker}
+use Rattle.clap.specs.Words.{app_of}
+use Rattle.clap.specs.Simple.{with_subcommand}
+use Rattle.clap.specs.Simple.{Shape}
+use Rattle.command_line.proofs.Plain.{is_not}
+use Rattle.command_line.proofs.options.with_compilers.Goals as goal
+
+pub returns : goal.returns
+returns c =
+    let build_plain = ap (λ (s : Shape). s.is_plain) c.in_ok-build.ensures in
+    let run_plain = ap (λ (s : Shape). s.is_plain) c.in_ok-run.ensures in
+    let batch_plain = ap (λ (s : Shape). s.is_plain) c.in_ok-batch.ensures in
+    let one = c.in_ok-subcommand.ensures.shape (is_not _ (and_parts _ _ (and_parts _ _ (and_parts _ _ build_plain).1).1).0) ∙ ap (with_subcommand (app_of c.args.command)) c.in_ok-build.ensures in
+    let two = c.in_ok-subcommand-2.ensures.shape (is_not _ (and_parts _ _ (and_parts _ _ (and_parts _ _ run_plain).1).1).0) ∙ ap₂ with_subcommand one c.in_ok-run.ensures in
+    IfOk-weaker c.subcommand-3.result _ _ (λ m h. h.shape (is_not _ (and_parts _ _ (and_parts _ _ (and_parts _ _ batch_plain).1).1).0) ∙ ap₂ with_subcommand two c.in_ok-batch.ensures) c.subcommand-3.ensures
