@@ -4,7 +4,7 @@ ghost use Rattle.std.specs.Prelude.{◌≡◌, ◌++◌, ◌<◌, ◌^◌, lengt
 ghost use Rattle.batch_records.specs.Answering.{answer_bytes, kind_byte};
 
 use byteorder::{ByteOrder, LittleEndian};
-use std::alloc::AllocError;
+use std::alloc::{AllocError, Global};
 use std::marker::Model;
 
 /// What an answer is.
@@ -31,32 +31,41 @@ impl AnswerKind {
     }
 }
 
-/// The answer to one source: an image or a line, of fewer than 4 GiB.
+/// How many bytes stand before an answer's image or line: one for its kind, and four for the length.
+const HEAD: usize = 5;
+
+/// The answer to one source, an image or a line of fewer than 4 GiB, as the bytes that are written: its kind, its length, and the image or the line.
 #[derive(Drop)]
 pub struct Answer {
     kind: AnswerKind,
-    bytes: Vec<u8>,
+    encoded: Vec<u8>,
 }
 
 impl Model for Answer {
-    ghost use Rattle.std.specs.Prelude.{◌<◌, ◌^◌, length};
-    ghost use Rattle.batch_records.specs.Answering.{Answered};
+    ghost use Rattle.std.specs.Prelude.{◌≡◌, ◌<◌, ◌^◌, length, drop};
+    ghost use Rattle.batch_records.specs.Answering.{Answered, answer_bytes};
 
     ghost Value = { Answered };
 
-    ghost view = { λ a. record { kind = a.kind; bytes = a.bytes.items } };
+    ghost view = { λ a. record { kind = a.kind; bytes = drop 5 a.encoded.items } };
 
-    ghost invariant = { λ a. length a.bytes.items < 2 ^ 32 };
+    ghost invariant = { λ a. (a.encoded.items ≡ answer_bytes (record { kind = a.kind; bytes = drop 5 a.encoded.items })) × (length (drop 5 a.encoded.items) < 2 ^ 32) };
 }
 
 impl Answer {
     /// The answer with these bytes.
-    pub fn new(kind: AnswerKind, bytes: Vec<u8>) -> Answer
-        requires short { length bytes.items < 2 ^ 32 }
-        ensures kind { result.kind ≡ kind }
-        ensures bytes { result.bytes ≡ bytes.items }
+    pub fn new(alloc: Global, kind: AnswerKind, bytes: &[u8]) -> Result<Answer, AllocError>
+        requires short { length bytes.now < 2 ^ 32 }
+        ensures kind { IfOk result (λ answer. answer.kind ≡ kind) }
+        ensures bytes { IfOk result (λ answer. answer.bytes ≡ bytes.now) }
     {
-        Answer { kind, bytes }
+        let mut length = [0; 4];
+        LittleEndian::write_u32(&mut length, bytes.len() as u32);
+        let mut encoded = Vec::with_capacity(alloc, HEAD + bytes.len())?;
+        encoded.push(kind.byte())?;
+        encoded.extend_from_slice(&length)?;
+        encoded.extend_from_slice(bytes)?;
+        Ok(Answer { kind, encoded })
     }
 
     /// What the answer is.
@@ -70,18 +79,13 @@ impl Answer {
     pub fn bytes(&self) -> &[u8]
         ensures { result.now ≡ self.now.bytes }
     {
-        &self.bytes
+        &self.encoded[HEAD..]
     }
 
-    /// Writes the answer behind the others: a byte for its kind, its length, and its bytes.
-    pub fn append_to(&self, out: &mut Vec<u8>) -> Result<(), AllocError>
-        ensures { IfOk result (λ _. out.new.items ≡ out.old.items ++ answer_bytes self.now) }
+    /// The answer as it is written: a byte for its kind, its length, and its bytes.
+    pub fn encoded(&self) -> &[u8]
+        ensures { result.now ≡ answer_bytes self.now }
     {
-        let mut length = [0; 4];
-        LittleEndian::write_u32(&mut length, self.bytes.len() as u32);
-        out.push(self.kind.byte())?;
-        out.extend_from_slice(&length)?;
-        out.extend_from_slice(&self.bytes)?;
-        Ok(())
+        &self.encoded
     }
 }

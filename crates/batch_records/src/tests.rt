@@ -94,17 +94,17 @@ fn refuses_too_many_records(rt: HostRuntime) {
 }
 
 #[test]
-fn writes_answers(rt: HostRuntime) -> Result<(), Fail> {
-    let mut out = Vec::new(rt.alloc());
-    let image = Answer::new(AnswerKind::Image, Vec::from_array(rt.alloc(), [7; 258])?);
-    image.append_to(&mut out)?;
-    assert_eq!(rt; &out[..6], b"\0\x02\x01\0\0\x07".as_slice());
-    assert_eq!(rt; out.len(), 263);
-    let empty = Answer::new(AnswerKind::Diagnostic, Vec::new(rt.alloc()));
-    empty.append_to(&mut out)?;
-    let limit = Answer::new(AnswerKind::Limit, Vec::from_array(rt.alloc(), [10])?);
-    limit.append_to(&mut out)?;
-    assert_eq!(rt; &out[263..], b"\x01\0\0\0\0\x05\x01\0\0\0\x0A".as_slice());
+fn encodes_answers(rt: HostRuntime) -> Result<(), Fail> {
+    let image = Answer::new(rt.alloc(), AnswerKind::Image, &[7; 258])?;
+    assert_eq!(rt; &image.encoded()[..6], b"\0\x02\x01\0\0\x07".as_slice());
+    assert_eq!(rt; image.encoded().len(), 263);
+    assert_eq!(rt; image.bytes(), [7; 258].as_slice());
+    let empty = Answer::new(rt.alloc(), AnswerKind::Diagnostic, &[])?;
+    assert_eq!(rt; empty.encoded(), b"\x01\0\0\0\0".as_slice());
+    assert_eq!(rt; empty.bytes(), b"".as_slice());
+    let limit = Answer::new(rt.alloc(), AnswerKind::Limit, b"\n")?;
+    assert_eq!(rt; limit.encoded(), b"\x05\x01\0\0\0\n".as_slice());
+    assert_eq!(rt; limit.kind(), AnswerKind::Limit);
     Ok(())
 }
 

@@ -1,14 +1,14 @@
 -- What was found of the records of a batch, and the answers in order.
-use Rattle.std.proofs.Common.{◌≡◌, ℕ, ◌<◌, All, List, [], ◌∷◌, ◌++◌, length, map, Some, Result, Ok, slice_get, sym, ap, ◌∙◌, subst, append_assoc}
-use Rattle.std.specs.Prelude.{option_map}
-use Rattle.std.proofs.lemmas.List.{append-nil}
+use Rattle.std.proofs.Common.{◌≡◌, ℕ, ◌<◌, All, List, length, map, Some, Result, Ok, Err, false, slice_get, sym, ap, ◌∙◌, subst}
+use Rattle.std.specs.Prelude.{IfOk, option_map}
 use Rattle.std.proofs.lemmas.List.Elements.{All-weaker}
 use Rattle.std.proofs.lemmas.Option.{slice_get-map, slice_get_within, get_or_from_slice_get}
-use Rattle.batch_records.specs.Answering.{Answered, all_bytes, answer_bytes, source_at}
+use Rattle.batch_records.specs.Answering.{Answered, source_at}
 use Rattle.batch_records.specs.declared.reading.Record.{Record}
 use Rattle.par_passes.specs.Crews.{Gave}
+use Rattle.verdict.specs.Verdict.{Verdict, IsVerdict}
 use Rattle.pareas_core.specs.Batch.{IsAnswerTo, IsFound}
-use Rattle.pareas_core.specs.Output.{AreAnswers}
+use Rattle.pareas_core.specs.Output.{AreAnswers, answer_of}
 use Rattle.pareas_core.proofs.Batched.{answers_are}
 
 -- the answer to the source of one record
@@ -33,6 +33,12 @@ pub in_order_are : (sources : List (List ℕ)) (found : List (ℕ × Answered)) 
 in_order_are sources found answers all long at =
     answers_are sources answers long (λ c x e. let w = at c x e in at_place (IsFound sources) found all w.0 (c, x) w.1)
 
-pub all_bytes_snoc : (xs : List Answered) (a : Answered) → all_bytes (xs ++ a ∷ []) ≡ all_bytes xs ++ answer_bytes a
-all_bytes_snoc [] a = append-nil (answer_bytes a)
-all_bytes_snoc (x ∷ xs) a = ap (λ l. answer_bytes x ++ l) (all_bytes_snoc xs a) ∙ sym (append_assoc (answer_bytes x) (all_bytes xs) (answer_bytes a))
+pub both_ok : {X E : Type 0} (r : Result X E) (P Q R : X → Type 0) → ((x : X) → P x → Q x → R x) → IfOk r P → IfOk r Q → IfOk r R
+both_ok (Ok x) P Q R f p q = f x p q
+both_ok (Err e) P Q R f p q = tt
+
+-- an answer of this kind with these bytes is due for the source
+pub answers_to : {E : Type 0} (r : Result Answered E) (text : List ℕ) (v : Verdict) (bytes : List ℕ) → IsVerdict false text v → bytes ≡ (answer_of text v).bytes
+    → IfOk r (λ a. a.kind ≡ (answer_of text v).kind) → IfOk r (λ a. a.bytes ≡ bytes) → IfOk r (λ a. IsAnswerTo text a)
+answers_to r text v bytes said is kinds bodies =
+    both_ok r _ _ _ (λ a kind body. record { verdict = v; said = said; is_answer = λ i. record { kind = kind i; bytes = (body ∙ is) i } }) kinds bodies

@@ -1,6 +1,7 @@
 pub mod Appending
 pub mod Batched
 mod Dealt
+mod Gathering
 mod Meeting
 mod Answering
 pub mod Chosen

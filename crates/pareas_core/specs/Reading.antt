@@ -21,3 +21,9 @@ pub record WritesPrefix (before after : Option (List ℕ)) (bytes : List ℕ) : 
   pub rest : List ℕ
   pub parts : bytes ≡ front ++ rest
   pub written : Appends before after front
+
+-- of bytes that were put, all were written but the last ones, which are pending
+pub record WritesAllBut (pending : List ℕ) (before after : Option (List ℕ)) (bytes : List ℕ) : Type 0 where
+  pub front : List ℕ
+  pub parts : bytes ≡ front ++ pending
+  pub written : Appends before after front

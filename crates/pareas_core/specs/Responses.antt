@@ -4,6 +4,9 @@ use Rattle.pareas_core.specs.declared.status.Status.{Status}
 use Rattle.pareas_core.specs.declared.status.Status.TheVariants as statuses
 use Rattle.pareas_core.specs.Headline.{CompilesTo, RunsAs, Runs, HasRun, read_by, End, HasFailed, GotPrefix, IsWritten}
 use Rattle.pareas_core.specs.Output.{Due, IsDue, at_place, noted}
+use Rattle.pareas_core.specs.declared.response.Output.{Output}
+use Rattle.pareas_core.specs.declared.response.Output.TheVariants.{Bytes, Answers}
+use Rattle.batch_records.specs.Answering.{all_bytes}
 use Rattle.command_line.specs.declared.command.Command.{Command}
 use Rattle.command_line.specs.declared.command.Command.TheVariants.{Build}
 use Rattle.front_end.specs.declared.refusal.Refusal.{Refusal}
@@ -25,6 +28,11 @@ abbrev pub IsToldOf : List ℕ → Refusal → Due → Type 0
 IsToldOf text (Diagnostic code at) d = d ≡ noted statuses.Refused (codes "error " ++ at_place text code at)
 IsToldOf text (Limit code at bytes) d = d ≡ noted statuses.Limit (codes "limit " ++ at_place text code at)
 IsToldOf text NoMemory d = ⊥
+
+-- the bytes of an output
+abbrev pub output_bytes : Output → List ℕ
+output_bytes (Bytes bytes) = bytes.items
+output_bytes (Answers answers) = all_bytes answers.items
 
 -- a response was written whole, or a write failed behind a prefix of it
 pub data IsDelivered (d : Due) (out notes : End) : Status → Type 0 where

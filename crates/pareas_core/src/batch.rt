@@ -1,5 +1,5 @@
 //! Many sources at once: the records of a batch are dealt out to workers, each of whom compiles one source at a time.
-ghost use Rattle.std.specs.Prelude.{◌≡◌, ◌<◌, ◌≤◌, ℕ, List, All, IfOk, Some, false, length, map, slice_get};
+ghost use Rattle.std.specs.Prelude.{◌≡◌, ◌<◌, ◌≤◌, ℕ, List, All, IfOk, false, length, map};
 ghost use Rattle.grammar_file.specs.Spelling.{IsReduced};
 ghost use Rattle.llp_tables.specs.EntryTable.{AreTablesOf};
 ghost use Rattle.source_meaning.specs.Grammar.{grammar};
@@ -8,7 +8,7 @@ ghost use Rattle.chunk_seats.specs.Claims.{fresh};
 ghost use Rattle.chunk_seats.specs.Held.{held};
 ghost use Rattle.chunk_seats.specs.Tallies.{times, OnceBelow};
 ghost use Rattle.batch_records.specs.Batch.{IsBatch, Records, fault_text};
-ghost use Rattle.batch_records.specs.Answering.{Answered, all_bytes, source_at};
+ghost use Rattle.batch_records.specs.Answering.{all_bytes, source_at};
 ghost use Rattle.command_line.specs.declared.command.Command.TheVariants.{Batch};
 ghost use Rattle.pareas_core.specs.declared.status.Status.TheVariants.{BadBatch};
 ghost use Rattle.pareas_core.specs.Batch.{IsAnswerTo, IsFound};
@@ -16,9 +16,8 @@ ghost use Rattle.pareas_core.specs.Output.{AreAnswers, done, noted};
 ghost use Rattle.pareas_core.specs.Responses.{IsResponse};
 
 use crate::compiler::compile_by;
-use crate::listing::written;
 use crate::position::{error_line, limit_line};
-use crate::response::Response;
+use crate::response::{Output, Response};
 use crate::status::Status;
 use batch_records::{
     Answer, AnswerKind, BatchError, BatchFault, Record, fault_or_records, faults_are_one,
@@ -67,11 +66,11 @@ fn told(alloc: Global, source: &[u8], refusal: Refusal) -> Result<Answer, AllocE
     match refusal {
         Refusal::Diagnostic { code, at } => {
             let line = error_line(alloc, source, code, at)?;
-            Ok(Answer::new(AnswerKind::Diagnostic, line))
+            Answer::new(alloc, AnswerKind::Diagnostic, &line)
         }
         Refusal::Limit { code, at, .. } => {
             let line = limit_line(alloc, source, code, at)?;
-            Ok(Answer::new(AnswerKind::Limit, line))
+            Answer::new(alloc, AnswerKind::Limit, &line)
         }
         Refusal::NoMemory => Err(AllocError),
     }
@@ -85,7 +84,7 @@ fn answer_to(crew: &impl Passes, tables: &Tables, source: &[u8]) -> Result<Answe
 {
     accepted_code_fits();
     match compile_by(crew, tables, source, false) {
-        Ok(file) => Ok(Answer::new(AnswerKind::Image, file)),
+        Ok(file) => Answer::new(crew.alloc(), AnswerKind::Image, &file),
         Err(refusal) => told(crew.alloc(), source, refusal),
     }
 }
@@ -156,29 +155,6 @@ pub fn deal<R: Threads + Sync, G: Gate>(
     Ok(Answers { found })
 }
 
-// How many bytes the answers take, each with its byte and its length before it.
-fn room(answers: &[Answer]) -> usize {
-    let mut bytes: usize = 0;
-    for answer in answers {
-        bytes = bytes.saturating_add(answer.bytes().len()).saturating_add(5);
-    }
-    bytes
-}
-
-// The answers in the order of their records, as bytes. Each is let go once it is written there.
-fn in_bytes(alloc: Global, count: usize, found: Vec<(u64, Answer)>) -> Result<Vec<u8>, AllocError>
-    requires once { OnceBelow count (λ n. times n (map (λ p. p.0) found.items)) }
-    ensures { IfOk result (λ out. (answers : List Answered) × (length answers ≡ count)
-        × ((c : ℕ) (x : Answered) → slice_get answers c ≡ Some x → (i : ℕ) × (slice_get found.items i ≡ Some (c, x))) × (out.items ≡ all_bytes answers)) }
-{
-    let answers = in_order(alloc, count, found)?;
-    let mut out = Vec::with_capacity(alloc, room(&answers))?;
-    for answer in answers {
-        answer.append_to(&mut out)?;
-    }
-    Ok(out)
-}
-
 // The crew, with no more workers than there are records.
 fn crew_for<'a, R, G>(crew: &Workers<'a, R, G>, count: usize) -> Workers<'a, R, G> {
     Workers {
@@ -192,19 +168,30 @@ fn crew_for<'a, R, G>(crew: &Workers<'a, R, G>, count: usize) -> Workers<'a, R, 
     }
 }
 
-// The answers to all sources of a batch with so many records.
+// The answers to all sources of a batch with so many records, in order.
 fn answer_all<R: Threads + Sync, G: Gate>(
     crew: &Workers<'_, R, G>,
     input: &[u8],
     count: usize,
-) -> Result<Vec<u8>, AllocError>
+) -> Result<Vec<Answer>, AllocError>
     requires { (sources : List (List ℕ)) × IsBatch input.now sources × (count ≡ length sources) }
-    ensures { IfOk result (λ out. (sources : List (List ℕ)) × (answers : List Answered) × IsBatch input.now sources × AreAnswers sources answers × (out.items ≡ all_bytes answers)) }
+    ensures { IfOk result (λ answers. (sources : List (List ℕ)) × IsBatch input.now sources × AreAnswers sources answers.items) }
 {
     let crew = crew_for(crew, count);
     let (board, mut seat) = ClaimBoard::new(crew.alloc, count as u64, crew.plan.workers)?;
     let Answers { found } = deal(&crew, input, &board, &mut seat)?;
-    in_bytes(crew.alloc, count, found)
+    in_order(crew.alloc, count, found)
+}
+
+// Answers that are written whole.
+fn answered(alloc: Global, answers: Vec<Answer>) -> Response
+    ensures { result ≡ done (all_bytes answers.items) }
+{
+    Response {
+        status: Status::Done,
+        out: Output::Answers(answers),
+        notes: Vec::new(alloc),
+    }
 }
 
 // The line of bytes that are no batch.
@@ -213,7 +200,7 @@ fn bad_batch(alloc: Global, fault: BatchFault) -> Result<Response, AllocError>
 {
     Ok(Response {
         status: Status::BadBatch,
-        out: Vec::new(alloc),
+        out: Output::Bytes(Vec::new(alloc)),
         notes: format!(in alloc; "{fault}\n")?.into_bytes(),
     })
 }
@@ -230,7 +217,7 @@ pub(crate) fn batch<R: Threads + Sync, G: Gate>(
     faults_are_one();
     fault_or_records();
     match read_records(crew.alloc, input) {
-        Ok(records) => Ok(written(crew.alloc, answer_all(crew, input, records.len())?)),
+        Ok(records) => Ok(answered(crew.alloc, answer_all(crew, input, records.len())?)),
         Err(BatchError::Fault(fault)) => bad_batch(crew.alloc, fault),
         Err(BatchError::NoMemory) => Err(AllocError),
     }

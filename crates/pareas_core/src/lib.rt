@@ -2,6 +2,7 @@
 #![tactic(auto)]
 
 mod batch;
+mod buffer;
 mod clean;
 mod coding;
 mod compiler;

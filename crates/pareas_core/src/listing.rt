@@ -9,7 +9,7 @@ ghost use Rattle.pareas_core.specs.Responses.{IsResponse};
 ghost use Rattle.pareas_core.specs.Output.{done, noted};
 
 use crate::machine::not_loaded;
-use crate::response::Response;
+use crate::response::{Output, Response};
 use crate::status::Status;
 use elf_file::ReadError;
 use rv_text::AsmFault;
@@ -21,7 +21,7 @@ pub(crate) fn written(alloc: Global, out: Vec<u8>) -> Response
 {
     Response {
         status: Status::Done,
-        out,
+        out: Output::Bytes(out),
         notes: Vec::new(alloc),
     }
 }
@@ -50,7 +50,7 @@ fn bad_asm(alloc: Global, fault: &AsmFault) -> Result<Response, AllocError>
 {
     Ok(Response {
         status: Status::BadAsm,
-        out: Vec::new(alloc),
+        out: Output::Bytes(Vec::new(alloc)),
         notes: format!(in alloc; "{fault}\n")?.into_bytes(),
     })
 }

@@ -7,7 +7,7 @@ ghost use Rattle.rv_isa.specs.Word.{word_of};
 ghost use Rattle.rv32_emul.specs.Machine.{machine, numbers, outcome_of, run as runs};
 ghost use Rattle.rv32_emul.specs.Told.{told};
 
-use crate::response::Response;
+use crate::response::{Output, Response};
 use crate::status::Status;
 use elf_file::{ElfFault, ReadError};
 use rv_isa::FaultKind;
@@ -101,7 +101,7 @@ pub(crate) fn not_loaded(alloc: Global, fault: ElfFault) -> Result<Response, All
 {
     Ok(Response {
         status: Status::BadImage,
-        out: Vec::new(alloc),
+        out: Output::Bytes(Vec::new(alloc)),
         notes: format!(in alloc; "image {fault}\n")?.into_bytes(),
     })
 }
@@ -127,7 +127,7 @@ pub(crate) fn emulate(
     out.extend_from_slice(&line(alloc, &outcome)?)?;
     Ok(Response {
         status: status(&outcome),
-        out,
+        out: Output::Bytes(out),
         notes: Vec::new(alloc),
     })
 }

@@ -1,22 +1,26 @@
 // What the program answers to a command and the bytes that it read.
 
-ghost use Rattle.std.specs.Prelude.{◌≡◌, ◌++◌, IfOk, codes};
+ghost use Rattle.std.specs.Prelude.{◌≡◌, ◌++◌, IfOk, OnErr, OnOk, codes};
+ghost use Rattle.std.specs.Io.KnownBytes.{Appends};
 ghost use Rattle.command_line.specs.declared.command.Command.TheVariants.{Build, Run};
 ghost use Rattle.pareas_core.specs.declared.status.Status.TheVariants.{Limit, Refused};
+ghost use Rattle.pareas_core.specs.Causes.{Rose};
 ghost use Rattle.pareas_core.specs.Output.{at_place, noted};
-ghost use Rattle.pareas_core.specs.Responses.{IsDelivered, IsResponse, IsToldOf};
+ghost use Rattle.pareas_core.specs.Reading.{WritesPrefix};
+ghost use Rattle.pareas_core.specs.Responses.{IsDelivered, IsResponse, IsToldOf, output_bytes};
 
 use crate::batch::batch;
 use crate::compiler::compile;
 use crate::drill::drill;
-use crate::ends::ByteOut;
+use crate::ends::{ByteOut, Failed};
 use crate::explain::explain;
 use crate::listing::{asm, dump};
 use crate::machine::emulate;
 use crate::position::{error_line, limit_line};
 use crate::status::Status;
 use crate::table::table;
-use crate::writing::write_all;
+use crate::writing::{write_all, write_answers};
+use batch_records::Answer;
 use chunk_seats::Gate;
 use command_line::Command;
 use front_end::Refusal;
@@ -26,20 +30,29 @@ use std::marker::{Model, Sync};
 use std::thread::Threads;
 use verdict::one_verdict;
 
+/// The bytes for the output.
+#[derive(Drop)]
+pub(crate) enum Output {
+    Bytes(Vec<u8>),
+    /// The answers to the sources of a batch, in order. They are written one by one, so no list has the bytes of all.
+    Answers(Vec<Answer>),
+}
+
 /// The status, and the bytes for the output and for the notes.
 #[derive(Drop)]
 pub(crate) struct Response {
     pub(crate) status: Status,
-    pub(crate) out: Vec<u8>,
+    pub(crate) out: Output,
     pub(crate) notes: Vec<u8>,
 }
 
 impl Model for Response {
     ghost use Rattle.pareas_core.specs.Output.{Due};
+    ghost use Rattle.pareas_core.specs.Responses.{output_bytes};
 
     ghost Value = { Due };
 
-    ghost view = { λ r. record { status = r.status; out = r.out.items; notes = r.notes.items } };
+    ghost view = { λ r. record { status = r.status; out = output_bytes r.out; notes = r.notes.items } };
 }
 
 // The line of a source's diagnostic.
@@ -48,7 +61,7 @@ fn diagnostic(alloc: Global, source: &[u8], code: u16, at: u32) -> Result<Respon
 {
     Ok(Response {
         status: Status::Refused,
-        out: Vec::new(alloc),
+        out: Output::Bytes(Vec::new(alloc)),
         notes: error_line(alloc, source, code, at)?,
     })
 }
@@ -59,7 +72,7 @@ fn limit(alloc: Global, source: &[u8], code: u16, at: u32) -> Result<Response, A
 {
     Ok(Response {
         status: Status::Limit,
-        out: Vec::new(alloc),
+        out: Output::Bytes(Vec::new(alloc)),
         notes: limit_line(alloc, source, code, at)?,
     })
 }
@@ -87,7 +100,7 @@ fn build(crew: &impl Passes, source: &[u8], fold: bool) -> Result<Response, Allo
     match compile(crew, source, fold) {
         Ok(file) => Ok(Response {
             status: Status::Done,
-            out: file,
+            out: Output::Bytes(file),
             notes: Vec::new(crew.alloc()),
         }),
         Err(refusal) => refused(crew.alloc(), source, refusal),
@@ -127,6 +140,19 @@ pub(crate) fn respond<R: Threads + Sync, G: Gate>(
     }
 }
 
+// Writes all bytes of an output.
+fn write_output<O: ByteOut>(out: &mut O, output: &Output) -> Result<(), Failed>
+    ensures written { OnOk result (Appends (O.written out.old) (O.written out.new) (output_bytes output.now)) }
+    ensures worked { OnOk result (O.faults out.new ≡ O.faults out.old) }
+    ensures prefix { OnErr result (WritesPrefix (O.written out.old) (O.written out.new) (output_bytes output.now)) }
+    ensures failed { OnErr result (Rose (O.faults out.old) (O.faults out.new)) }
+{
+    match output {
+        Output::Bytes(bytes) => write_all(out, bytes),
+        Output::Answers(answers) => write_answers(out, answers),
+    }
+}
+
 /// Writes the response: first the output, then the notes.
 pub(crate) fn deliver<O: ByteOut, E: ByteOut>(
     response: &Response,
@@ -138,7 +164,7 @@ pub(crate) fn deliver<O: ByteOut, E: ByteOut>(
         (record { before = E.written notes.old; after = E.written notes.new; faults_before = E.faults notes.old; faults_after = E.faults notes.new })
         result }
 {
-    let Ok(()) = write_all(out, &response.out) else {
+    let Ok(()) = write_output(out, &response.out) else {
         return Status::WriteFault;
     };
     let Ok(()) = write_all(notes, &response.notes) else {

@@ -7,7 +7,7 @@ ghost use Rattle.pareas_core.specs.Responses.{IsResponse};
 ghost use Rattle.pareas_core.specs.Output.{due_of_table, noted};
 
 use crate::listing::written;
-use crate::response::Response;
+use crate::response::{Output, Response};
 use crate::status::Status;
 use command_line::Word;
 use par_passes::Passes;
@@ -32,7 +32,7 @@ fn refused(alloc: Global, status: Status, line: Text) -> Result<Response, AllocE
     notes.push(b'\n')?;
     Ok(Response {
         status,
-        out: Vec::new(alloc),
+        out: Output::Bytes(Vec::new(alloc)),
         notes,
     })
 }
@@ -43,7 +43,7 @@ fn syntax(alloc: Global, at: u64) -> Result<Response, AllocError>
 {
     Ok(Response {
         status: Status::Refused,
-        out: Vec::new(alloc),
+        out: Output::Bytes(Vec::new(alloc)),
         notes: format!(in alloc; "syntax {at}\n")?.into_bytes(),
     })
 }
