@@ -6,9 +6,8 @@ use Rattle.std.proofs.lemmas.Option.{slice_get-map, slice_get_within, get_or_fro
 use Rattle.batch_records.specs.Answering.{Answered, source_at}
 use Rattle.batch_records.specs.declared.reading.Record.{Record}
 use Rattle.par_passes.specs.Crews.{Gave}
-use Rattle.verdict.specs.Verdict.{Verdict, IsVerdict}
 use Rattle.pareas_core.specs.Batch.{IsAnswerTo, IsFound}
-use Rattle.pareas_core.specs.Output.{AreAnswers, answer_of}
+use Rattle.pareas_core.specs.Output.{AreAnswers}
 use Rattle.pareas_core.proofs.Batched.{answers_are}
 
 -- the answer to the source of one record
@@ -36,9 +35,3 @@ in_order_are sources found answers all long at =
 pub both_ok : {X E : Type 0} (r : Result X E) (P Q R : X → Type 0) → ((x : X) → P x → Q x → R x) → IfOk r P → IfOk r Q → IfOk r R
 both_ok (Ok x) P Q R f p q = f x p q
 both_ok (Err e) P Q R f p q = tt
-
--- an answer of this kind with these bytes is due for the source
-pub answers_to : {E : Type 0} (r : Result Answered E) (text : List ℕ) (v : Verdict) (bytes : List ℕ) → IsVerdict false text v → bytes ≡ (answer_of text v).bytes
-    → IfOk r (λ a. a.kind ≡ (answer_of text v).kind) → IfOk r (λ a. a.bytes ≡ bytes) → IfOk r (λ a. IsAnswerTo text a)
-answers_to r text v bytes said is kinds bodies =
-    both_ok r _ _ _ (λ a kind body. record { verdict = v; said = said; is_answer = λ i. record { kind = kind i; bytes = (body ∙ is) i } }) kinds bodies
