@@ -76,11 +76,11 @@ fn expect_answer<R: Threads + Abort + Sync>(
 
 #[test]
 fn sources_have_the_diagnostics_that_they_explain(rt: HostRuntime) -> Result<(), Fail> {
-    let mut count = 0;
+    let mut count: u32 = 0;
     for code in 0..1000 {
         if let Some(explanation) = explanation_of(code) {
             expect_answer(&rt, rt.alloc(), &explanation)?;
-            count += 1;
+            count = count.saturating_add(1);
         }
     }
     assert_eq!(rt; count, 22);
