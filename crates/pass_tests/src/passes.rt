@@ -53,9 +53,10 @@ fn rolls<R: Threads + Abort + Sync>(
     Ok(roll.told())
 }
 
-// Plans and numbers of items, and how a gate is told: no more workers than chunks, and one where there is none.
+// Plans and numbers of items, and how a gate is told: no more workers than chunks, two for so few items, and one where there is no chunk.
 const ROLLS: &[((u32, u32), usize, (u64, u64))] = &[
     ((2, 1), 3, (0x0101, 0b111)),
+    ((64, 1), 3, (0x0101, 0b111)),
     ((64, 2), 3, (0x0101, 0b11)),
     ((64, 2), 2, (1, 0b1)),
     ((64, 2), 0, (1, 0)),
