@@ -4,7 +4,7 @@ use Rattle.rv_isa.specs.Memory.{Region}
 use Rattle.rv32_emul.specs.Access.{allows, IsFirst}
 use Rattle.rv32_emul.specs.Stretches.{stretch_of, stretches}
 use Rattle.rv32_emul.proofs.Apart.{found, found-none, found-other}
-use Rattle.rv32_emul.proofs.memory.find_by_place.Goals as goal
+use Rattle.rv32_emul.proofs.regions.find_by_place.Goals as goal
 
 pub returns-then-allows : goal.returns-then-allows
 returns-then-allows c =

@@ -6,7 +6,7 @@ use Rattle.rv32_emul.specs.Stretches.{stretches, AreApart}
 use Rattle.rv32_emul.specs.Fixed.{fixed}
 use Rattle.rv32_emul.specs.Kept.{AreCode}
 use Rattle.rv32_emul.proofs.Codes.{all-code}
-use Rattle.rv32_emul.proofs.memory.Regions.code.Goals as goal
+use Rattle.rv32_emul.proofs.regions.Regions.code.Goals as goal
 
 pub returns : goal.returns
 returns c =

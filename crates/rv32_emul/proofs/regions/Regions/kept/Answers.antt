@@ -3,7 +3,7 @@ use Rattle.std.specs.Prelude.{MatchOption, option_map}
 use Rattle.rv_isa.specs.Memory.{Region, fetched}
 use Rattle.rv_isa.specs.Encoding.{decoded, InRange}
 use Rattle.rv32_emul.proofs.Keeping.{fetched-at}
-use Rattle.rv32_emul.proofs.memory.Regions.kept.Goals as goal
+use Rattle.rv32_emul.proofs.regions.Regions.kept.Goals as goal
 
 pub returns-then-region-len : goal.returns-then-region-len
 returns-then-region-len c =
