@@ -7,7 +7,7 @@ ghost use Rattle.grammar_file.specs.Marks.{AreMarksOf};
 ghost use Rattle.ll1_sets.specs.Predict.{IsNullable, IsPredicted, IsLl1, HasConflict, IsLeastConflict};
 ghost use Rattle.ll1_sets.specs.Conflicts.{AreSets, AreTwoLeast, IsNextPredicted, LeastBelow, LeastOn};
 
-use crate::sets::{comes_behind, first, follow, nullable, width_of};
+use crate::sets::{Sets, first, follow, nullable, width_of};
 use grammar_file::Grammar;
 use std::alloc::{AllocError, Global};
 
@@ -24,86 +24,61 @@ pub struct Conflict {
     pub p2: u16,
 }
 
-/// Whether the production behind the first i ones is one of the nonterminal a, and predicts b.
-pub fn predicts(
-    grammar: &Grammar,
-    nullable: &[bool],
-    first: &[bool],
-    follow: &[bool],
-    b: u16,
-    a: u16,
-    i: usize,
-) -> bool
-    requires sets { AreSets grammar.now b nullable.now first.now follow.now }
-    requires within { i < length grammar.now.productions }
-    ensures yes { result ≡ true → IsPredicted grammar.now a (i + 1) b }
-    ensures other { result ≡ false → ¬ IsPredicted grammar.now a (i + 1) b }
-{
-    let rule = &grammar.productions()[i];
-    rule.left() == a && comes_behind(nullable, first, follow, b, a, rule.right())
-}
-
-/// The least production of the nonterminal a, behind the first `passed` ones, that predicts b.
-fn next_predicted(
-    grammar: &Grammar,
-    nullable: &[bool],
-    first: &[bool],
-    follow: &[bool],
-    b: u16,
-    a: u16,
-    passed: usize,
-) -> Option<u16>
-    requires { AreSets grammar.now b nullable.now first.now follow.now }
-    ensures { MatchOption result ((p : ℕ) → passed < p → ¬ IsPredicted grammar.now a p b) (λ p. IsNextPredicted grammar.now a b passed p) }
-{
-    for i in passed..grammar.production_count() as usize {
-        if predicts(grammar, nullable, first, follow, b, a, i) {
-            return Some(i as u16 + 1);
-        }
+impl Sets<'_> {
+    /// Whether the production behind the first i ones is one of the nonterminal a, and predicts b.
+    pub(crate) fn predicts(&self, a: u16, i: usize) -> bool
+        requires sets { AreSets self.now.grammar.now self.now.b self.now.nullable.now self.now.first.now self.now.follow.now }
+        requires within { i < length self.now.grammar.now.productions }
+        ensures yes { result ≡ true → IsPredicted self.now.grammar.now a (i + 1) self.now.b }
+        ensures other { result ≡ false → ¬ IsPredicted self.now.grammar.now a (i + 1) self.now.b }
+    {
+        let rule = &self.grammar.productions()[i];
+        rule.left() == a && self.comes_behind(a, rule.right())
     }
-    None
-}
 
-/// The two least productions of the nonterminal a that predict b.
-fn conflict_at(
-    grammar: &Grammar,
-    nullable: &[bool],
-    first: &[bool],
-    follow: &[bool],
-    b: u16,
-    a: u16,
-) -> Option<(u16, u16)>
-    requires { AreSets grammar.now b nullable.now first.now follow.now }
-    ensures { MatchOption result (¬ HasConflict grammar.now a b) (λ pair. AreTwoLeast grammar.now a b pair.0 pair.1) }
-{
-    let p1 = next_predicted(grammar, nullable, first, follow, b, a, 0)?;
-    let p2 = next_predicted(grammar, nullable, first, follow, b, a, p1 as usize)?;
-    Some((p1, p2))
-}
-
-/// The least conflict on b.
-fn conflict_on(
-    grammar: &Grammar,
-    nullable: &[bool],
-    first: &[bool],
-    follow: &[bool],
-    b: u16,
-) -> Option<Conflict>
-    requires well_formed { IsWellFormed grammar.now }
-    requires sets { AreSets grammar.now b nullable.now first.now follow.now }
-    ensures { LeastOn grammar.now b result }
-{
-    for a in 0..grammar.nonterminal_count() {
-        if let Some((p1, p2)) = conflict_at(grammar, nullable, first, follow, b, a) {
-            return Some(Conflict {
-                nonterminal: a,
-                b,
-                p1,
-                p2,
-            });
+    /// The least production of the nonterminal a, behind the first `passed` ones, that predicts b.
+    fn next_predicted(&self, a: u16, passed: usize) -> Option<u16>
+        requires { AreSets self.now.grammar.now self.now.b self.now.nullable.now self.now.first.now self.now.follow.now }
+        ensures { MatchOption result
+            ((p : ℕ) → passed < p → ¬ IsPredicted self.now.grammar.now a p self.now.b)
+            (λ p. IsNextPredicted self.now.grammar.now a self.now.b passed p) }
+    {
+        for i in passed..self.grammar.production_count() as usize {
+            if self.predicts(a, i) {
+                return Some(i as u16 + 1);
+            }
         }
+        None
     }
-    None
+
+    /// The two least productions of the nonterminal a that predict b.
+    fn conflict_at(&self, a: u16) -> Option<(u16, u16)>
+        requires { AreSets self.now.grammar.now self.now.b self.now.nullable.now self.now.first.now self.now.follow.now }
+        ensures { MatchOption result (¬ HasConflict self.now.grammar.now a self.now.b) (λ pair. AreTwoLeast self.now.grammar.now a self.now.b pair.0 pair.1) }
+    {
+        let p1 = self.next_predicted(a, 0)?;
+        let p2 = self.next_predicted(a, p1 as usize)?;
+        Some((p1, p2))
+    }
+
+    /// The least conflict on b.
+    fn least_conflict(&self) -> Option<Conflict>
+        requires well_formed { IsWellFormed self.now.grammar.now }
+        requires sets { AreSets self.now.grammar.now self.now.b self.now.nullable.now self.now.first.now self.now.follow.now }
+        ensures { LeastOn self.now.grammar.now self.now.b result }
+    {
+        for a in 0..self.grammar.nonterminal_count() {
+            if let Some((p1, p2)) = self.conflict_at(a) {
+                return Some(Conflict {
+                    nonterminal: a,
+                    b: self.b,
+                    p1,
+                    p2,
+                });
+            }
+        }
+        None
+    }
 }
 
 /// The least conflict on the terminal b of this grammar.
@@ -119,7 +94,14 @@ fn conflict_of(
 {
     let first = first(alloc, grammar, nullable, b)?;
     let follow = follow(alloc, grammar, nullable, first.as_slice(), b)?;
-    Ok(conflict_on(grammar, nullable, first.as_slice(), follow.as_slice(), b))
+    let sets = Sets {
+        grammar,
+        nullable,
+        first: first.as_slice(),
+        follow: follow.as_slice(),
+        b,
+    };
+    Ok(sets.least_conflict())
 }
 
 /// The lesser of the least conflict on the terminals so far and that on the next one.

@@ -7,8 +7,7 @@ ghost use Rattle.grammar_file.specs.Marks.{AreMarksOf};
 ghost use Rattle.ll1_sets.specs.Predict.{IsNullable, IsFirst, ArePredictions};
 ghost use Rattle.ll1_sets.specs.Conflicts.{AreSets};
 
-use crate::conflicts::predicts;
-use crate::sets::follow;
+use crate::sets::{Sets, follow};
 use grammar_file::Grammar;
 use std::alloc::{AllocError, Global};
 
@@ -31,26 +30,21 @@ fn left_of(grammar: &Grammar, i: usize) -> u16
     grammar.productions()[i].left()
 }
 
-/// The production of each nonterminal that the terminal b predicts, by the sets of b.
-fn predictions_by(
-    alloc: Global,
-    grammar: &Grammar,
-    nullable: &[bool],
-    first: &[bool],
-    follow: &[bool],
-    b: u16,
-) -> Result<Vec<Option<u16>>, AllocError>
-    requires { AreSets grammar.now b nullable.now first.now follow.now }
-    ensures { IfOk result (λ v. ArePredictions grammar.now b v.items) }
-{
-    let mut predictions = vec![in alloc; None; grammar.nonterminals().len()]?;
-    for i in 0..grammar.production_count() as usize {
-        let left = left_of(grammar, i);
-        if predicts(grammar, nullable, first, follow, b, left, i) {
-            predictions[left as usize] = Some(i as u16 + 1);
+impl Sets<'_> {
+    /// The production of each nonterminal that b predicts.
+    fn predictions(&self, alloc: Global) -> Result<Vec<Option<u16>>, AllocError>
+        requires { AreSets self.now.grammar.now self.now.b self.now.nullable.now self.now.first.now self.now.follow.now }
+        ensures { IfOk result (λ v. ArePredictions self.now.grammar.now self.now.b v.items) }
+    {
+        let mut predictions = vec![in alloc; None; self.grammar.nonterminals().len()]?;
+        for i in 0..self.grammar.production_count() as usize {
+            let left = left_of(self.grammar, i);
+            if self.predicts(left, i) {
+                predictions[left as usize] = Some(i as u16 + 1);
+            }
         }
+        Ok(predictions)
     }
-    Ok(predictions)
 }
 
 /// The production of each nonterminal that the terminal b predicts.
@@ -66,5 +60,12 @@ pub fn predictions(
     ensures { IfOk result (λ v. ArePredictions grammar.now b v.items) }
 {
     let follow = follow(alloc, grammar, nullable, first, b)?;
-    predictions_by(alloc, grammar, nullable, first, follow.as_slice(), b)
+    let sets = Sets {
+        grammar,
+        nullable,
+        first,
+        follow: follow.as_slice(),
+        b,
+    };
+    sets.predictions(alloc)
 }

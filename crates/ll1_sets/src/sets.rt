@@ -135,67 +135,60 @@ pub fn first(
     Ok(marks)
 }
 
-/// Whether the terminal b may come behind what stands before `after` in a right side of `left`, by the marks so far.
-pub fn comes_behind(
-    nullable: &[bool],
-    first: &[bool],
-    follow: &[bool],
-    b: u16,
-    left: u16,
-    after: &[Symbol],
-) -> bool
-    ensures { result ≡ comes_behind nullable.now first.now follow.now b left after.now }
-{
-    begins(nullable, first, b, after) || (all_vanish(nullable, after) && mark_of(follow, left))
+/// A grammar's sets NULL, FIRST and FOLLOW, as far as they tell of one terminal, by marks on the nonterminals.
+#[derive(Clone, Copy)]
+pub(crate) struct Sets<'a> {
+    /// The grammar.
+    pub grammar: &'a Grammar,
+    /// The nonterminals that derive nothing.
+    pub nullable: &'a [bool],
+    /// Those that have b in FIRST.
+    pub first: &'a [bool],
+    /// Those that have b in FOLLOW: all of them, or those that are found so far.
+    pub follow: &'a [bool],
+    /// The terminal.
+    pub b: u16,
 }
 
-/// A nonterminal in a right side of `left` that isn't marked, and behind which b may come.
-fn next_follow_in(
-    nullable: &[bool],
-    first: &[bool],
-    follow: &[bool],
-    b: u16,
-    left: u16,
-    right: &[Symbol],
-) -> Option<u16>
-    ensures { MatchOption result (IsFollowClosedIn nullable.now first.now follow.now b left right.now) (λ a. IsNextFollowIn nullable.now first.now follow.now b left right.now a) }
-{
-    for i in 0..right.len() {
-        if let Symbol::Nonterminal(a) = right[i] {
-            if !mark_of(follow, a)
-                && comes_behind(nullable, first, follow, b, left, &right[i + 1..])
-            {
+impl Sets<'_> {
+    /// Whether b may come behind what stands before `after` in a right side of `left`.
+    pub(crate) fn comes_behind(&self, left: u16, after: &[Symbol]) -> bool
+        ensures { result ≡ comes_behind self.now.nullable.now self.now.first.now self.now.follow.now self.now.b left after.now }
+    {
+        begins(self.nullable, self.first, self.b, after)
+            || (all_vanish(self.nullable, after) && mark_of(self.follow, left))
+    }
+
+    /// A nonterminal in a right side of `left` that isn't in FOLLOW so far, and behind which b may come.
+    fn next_follow_in(&self, left: u16, right: &[Symbol]) -> Option<u16>
+        ensures { MatchOption result
+            (IsFollowClosedIn self.now.nullable.now self.now.first.now self.now.follow.now self.now.b left right.now)
+            (λ a. IsNextFollowIn self.now.nullable.now self.now.first.now self.now.follow.now self.now.b left right.now a) }
+    {
+        for i in 0..right.len() {
+            if let Symbol::Nonterminal(a) = right[i] {
+                if !mark_of(self.follow, a) && self.comes_behind(left, &right[i + 1..]) {
+                    return Some(a);
+                }
+            }
+        }
+        None
+    }
+
+    /// A nonterminal in a right side that isn't in FOLLOW so far, and behind which b may come.
+    fn next_follow(&self, productions: &[Production]) -> Option<u16>
+        ensures { MatchOption result
+            (IsFollowClosed self.now.nullable.now self.now.first.now self.now.follow.now self.now.b productions.now)
+            (λ a. IsNextFollow self.now.nullable.now self.now.first.now self.now.follow.now self.now.b productions.now a) }
+    {
+        for production in productions {
+            let next = self.next_follow_in(production.left(), production.right());
+            if let Some(a) = next {
                 return Some(a);
             }
         }
+        None
     }
-    None
-}
-
-/// A nonterminal in a right side that isn't marked, and behind which b may come.
-fn next_follow(
-    productions: &[Production],
-    nullable: &[bool],
-    first: &[bool],
-    follow: &[bool],
-    b: u16,
-) -> Option<u16>
-    ensures { MatchOption result (IsFollowClosed nullable.now first.now follow.now b productions.now) (λ a. IsNextFollow nullable.now first.now follow.now b productions.now a) }
-{
-    for production in productions {
-        let next = next_follow_in(
-            nullable,
-            first,
-            follow,
-            b,
-            production.left(),
-            production.right(),
-        );
-        if let Some(a) = next {
-            return Some(a);
-        }
-    }
-    None
 }
 
 /// A mark on the start where b is the mark behind a text, and no other mark.
@@ -224,8 +217,17 @@ pub fn follow(
     ensures { IfOk result (λ v. AreMarksOf grammar.now (λ a. IsFollow grammar.now a b) v.items) }
 {
     let mut marks = behind_text(alloc, grammar, b)?;
-    while let Some(a) = next_follow(grammar.productions(), nullable, first, marks.as_slice(), b) {
+    loop {
+        let sets = Sets {
+            grammar,
+            nullable,
+            first,
+            follow: marks.as_slice(),
+            b,
+        };
+        let Some(a) = sets.next_follow(grammar.productions()) else {
+            return Ok(marks);
+        };
         marks[a as usize] = true;
     }
-    Ok(marks)
 }

@@ -33,8 +33,8 @@ loop-a-preserved c =
     let turn = follow_turn c.args.grammar.now c.args.nullable.now c.args.first.now c.args.b c.requires.nullable c.requires.first p.well_formed p.reduced marks c.in-Some.a c.loop-a.invariant.len c.loop-a.invariant.sound next in
     record { len = length-set marks c.in-Some.a true ∙ c.loop-a.invariant.len; start = λ e. marked_stays marks c.in-Some.a 0 turn.within (c.loop-a.invariant.start e); sound = turn.sound }
 
-pub returns : goal.returns
-returns c =
+pub returns-in_default : goal.returns-in_default
+returns-in_default c =
     let marks = c.loop-a.marks.items in
     let closed = moved (λ ps ms. IsFollowClosed c.args.nullable.now c.args.first.now ms c.args.b ps) c.productions.ensures.rules c.as_slice.ensures.value c.in_default.ensures in
     record { len = c.loop-a.invariant.len; sound = c.loop-a.invariant.sound; complete = follow_marked c.args.grammar.now c.args.nullable.now c.args.first.now c.args.b c.requires.nullable c.requires.first marks closed c.loop-a.invariant.start }

@@ -1,6 +1,6 @@
 use Rattle.std.proofs.Common.{arith}
 use Rattle.ll1_sets.proofs.PredictSets.{one_passed, predicted_number}
-use Rattle.ll1_sets.proofs.conflicts.next_predicted.Goals as goal
+use Rattle.ll1_sets.proofs.sets.Sets.next_predicted.Goals as goal
 
 pub returns-then-predicts : goal.returns-then-predicts
 returns-then-predicts c =
@@ -8,11 +8,11 @@ returns-then-predicts c =
     record { predicted = c.predicts.ensures.yes c.if-predicts.true; behind = omega arith; no_lesser = λ q l m. c.loop-i.invariant q l (omega arith) }
 
 pub loop-i-preserved : goal.loop-i-preserved
-loop-i-preserved c = one_passed c.args.grammar.now c.args.a c.args.b c.args.passed c.loop-i.i c.loop-i.invariant (c.predicts.ensures.other c.if-predicts.false)
+loop-i-preserved c = one_passed c.args.self.now.grammar.now c.args.a c.args.self.now.b c.args.passed c.loop-i.i c.loop-i.invariant (c.predicts.ensures.other c.if-predicts.false)
 
 pub returns : goal.returns
 returns c = λ p l h.
-    let n = (predicted_number c.args.grammar.now c.args.a p c.args.b h).1 in
+    let n = (predicted_number c.args.self.now.grammar.now c.args.a p c.args.self.now.b h).1 in
     let count = c.production_count-i-end.ensures in
     let end = c.loop-i-test.false in
     c.loop-i.invariant p l (omega arith) h
