@@ -11,7 +11,7 @@ use Rattle.llp_wide.specs.Claims.{Claim}
 use Rattle.llp_wide.specs.Classes.{AreClasses, room_in}
 use Rattle.llp_wide.specs.Places.{AreSpots}
 use Rattle.llp_wide.specs.Settling.{IsWideSettling, AreLeft}
-use Rattle.llp_wide.specs.declared.search.Ground.{Ground}
+use Rattle.llp_wide.specs.declared.claims.Ground.{Ground}
 
 -- the sets and the places are those of the grammar
 pub record IsGround (ground : Ground) : Type 0 where

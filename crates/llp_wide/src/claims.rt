@@ -12,7 +12,7 @@ ghost use Rattle.llp_wide.specs.Added.{Adds, SomeBelow};
 ghost use Rattle.llp_wide.specs.Claims.{IsStopAt, IsStopIn, IsStopBy, IsStopOf, IsFirstClaim, IsPassAt, IsPassOf};
 ghost use Rattle.llp_wide.specs.Queueing.{stack_cmp};
 
-use crate::places::{Group, Place};
+use crate::places::{Context, Group, Place};
 use grammar_file::{Grammar, Symbol};
 use llp_tables::{Members, all_vanish, is_before, starts};
 use std::alloc::{AllocError, Global};
@@ -106,146 +106,119 @@ impl Ord for Waiting {
     }
 }
 
-// Whether b may begin at symbol j of what stands behind a place.
-fn is_stop(nullable: &[bool], first: &[bool], b: u16, after: &[Symbol], j: usize) -> bool
-    requires { j < length after.now }
-    ensures { result ≡ is_stop nullable.now first.now b (take j after.now) (get_or after.now j (AnyTerminal 0)) }
-{
-    all_vanish(nullable, &after[..j]) && starts(first, b, after[j])
+/// By what the cells are filled where the terminal b comes next: the nonterminals that vanish and those that b may begin, and the places
+/// of all owners.
+#[derive(Clone, Copy)]
+pub(crate) struct Ground<'a> {
+    pub grammar: &'a Grammar,
+    pub nullable: &'a [bool],
+    pub first: &'a [bool],
+    pub groups: &'a [Group],
+    pub b: u16,
 }
 
-// Adds the front of `after` that ends with its symbol j, where b may begin there.
-fn add_stop(
-    alloc: Global,
-    nullable: &[bool],
-    first: &[bool],
-    b: u16,
-    after: &[Symbol],
-    before: u16,
-    symbol: Symbol,
-    j: usize,
-    waiting: &mut Vec<Waiting>,
-) -> Result<(), AllocError>
-    requires { j < length after.now }
-    ensures { IfOk result (λ u. Adds (IsStopAt nullable.now first.now b after.now before symbol j) waiting.old.items waiting.new.items) }
-{
-    if !is_stop(nullable, first, b, after, j) {
-        return Ok(());
+impl Ground<'_> {
+    // Whether b may begin at symbol j of what stands behind a symbol.
+    fn is_stop(&self, after: &[Symbol], j: usize) -> bool
+        requires { j < length after.now }
+        ensures { result ≡ is_stop self.now.nullable.now self.now.first.now self.now.b (take j after.now) (get_or after.now j (AnyTerminal 0)) }
+    {
+        all_vanish(self.nullable, &after[..j]) && starts(self.first, self.b, after[j])
     }
-    let stack = Vec::from_slice(alloc, &after[..j + 1])?;
-    waiting.push(Waiting {
-        before,
-        symbol,
-        stack,
-    })?;
-    Ok(())
-}
 
-// Adds each front of `after` at whose last symbol b may begin: up to the first symbol that can't vanish.
-fn add_stops(
-    alloc: Global,
-    nullable: &[bool],
-    first: &[bool],
-    b: u16,
-    after: &[Symbol],
-    before: u16,
-    symbol: Symbol,
-    waiting: &mut Vec<Waiting>,
-) -> Result<(), AllocError>
-    ensures { IfOk result (λ u. Adds (IsStopIn nullable.now first.now b after.now before symbol) waiting.old.items waiting.new.items) }
-{
-    for j in 0..after.len() {
-        add_stop(alloc, nullable, first, b, after, before, symbol, j, waiting)?;
-        if !all_vanish(nullable, &after[..j + 1]) {
+    // Adds the front of what stands behind a symbol that ends with symbol j there, where b may begin at that.
+    fn add_stop(
+        &self,
+        alloc: Global,
+        context: Context<'_>,
+        j: usize,
+        waiting: &mut Vec<Waiting>,
+    ) -> Result<(), AllocError>
+        requires { j < length context.after.now }
+        ensures { IfOk result (λ u. Adds (IsStopAt self.now.nullable.now self.now.first.now self.now.b context.entry.after.now context.entry.before context.entry.symbol j)
+            waiting.old.items waiting.new.items) }
+    {
+        if !self.is_stop(context.after, j) {
             return Ok(());
         }
+        let stack = Vec::from_slice(alloc, &context.after[..j + 1])?;
+        waiting.push(Waiting {
+            before: context.before,
+            symbol: context.symbol,
+            stack,
+        })?;
+        Ok(())
     }
-    Ok(())
-}
 
-// Adds the stops behind all places.
-fn add_stops_of(
-    alloc: Global,
-    nullable: &[bool],
-    first: &[bool],
-    b: u16,
-    places: &[Place],
-    waiting: &mut Vec<Waiting>,
-) -> Result<(), AllocError>
-    ensures { IfOk result (λ u. Adds (SomeBelow (length places.now) (IsStopBy nullable.now first.now b places.now)) waiting.old.items waiting.new.items) }
-{
-    for i in 0..places.len() {
-        let place = &places[i];
-        let after = place.after.as_slice();
-        add_stops(
-            alloc,
-            nullable,
-            first,
-            b,
-            after,
-            place.before,
-            place.symbol,
-            waiting,
-        )?;
+    // Adds each front of what stands behind a symbol at whose end b may begin: up to the first symbol that can't vanish.
+    fn add_stops(
+        &self,
+        alloc: Global,
+        context: Context<'_>,
+        waiting: &mut Vec<Waiting>,
+    ) -> Result<(), AllocError>
+        ensures { IfOk result (λ u. Adds (IsStopIn self.now.nullable.now self.now.first.now self.now.b context.entry.after.now context.entry.before context.entry.symbol)
+            waiting.old.items waiting.new.items) }
+    {
+        for j in 0..context.after.len() {
+            self.add_stop(alloc, context, j, waiting)?;
+            if !all_vanish(self.nullable, &context.after[..j + 1]) {
+                return Ok(());
+            }
+        }
+        Ok(())
     }
-    Ok(())
-}
 
-// Adds the stops behind the places of all owners.
-fn add_all_stops(
-    alloc: Global,
-    nullable: &[bool],
-    first: &[bool],
-    b: u16,
-    groups: &[Group],
-    waiting: &mut Vec<Waiting>,
-) -> Result<(), AllocError>
-    ensures { IfOk result (λ u. Adds (SomeBelow (length groups.now) (IsStopOf nullable.now first.now b groups.now)) waiting.old.items waiting.new.items) }
-{
-    for n in 0..groups.len() {
-        let group = &groups[n];
-        let places = group.places.as_slice();
-        add_stops_of(alloc, nullable, first, b, places, waiting)?;
+    // Adds the stops behind all places.
+    fn add_stops_of(
+        &self,
+        alloc: Global,
+        places: &[Place],
+        waiting: &mut Vec<Waiting>,
+    ) -> Result<(), AllocError>
+        ensures { IfOk result (λ u. Adds (SomeBelow (length places.now) (IsStopBy self.now.nullable.now self.now.first.now self.now.b places.now)) waiting.old.items waiting.new.items) }
+    {
+        for i in 0..places.len() {
+            self.add_stops(alloc, places[i].context(), waiting)?;
+        }
+        Ok(())
     }
-    Ok(())
-}
 
-/// The strings that are forced into the cells while there is nothing in any.
-pub(crate) fn first_waiting(
-    alloc: Global,
-    grammar: &Grammar,
-    nullable: &[bool],
-    first: &[bool],
-    groups: &[Group],
-    b: u16,
-) -> Result<Vec<Waiting>, AllocError>
-    ensures { IfOk result (λ v. Adds (IsFirstClaim nullable.now first.now b grammar.now groups.now) [] v.items) }
-{
-    let text = [Symbol::Nonterminal(0), grammar.end_mark()];
-    let end = [grammar.end_mark()];
-    let mut waiting = Vec::new(alloc);
-    add_stops(
-        alloc,
-        nullable,
-        first,
-        b,
-        &text,
-        0,
-        Symbol::Terminal(0),
-        &mut waiting,
-    )?;
-    add_stops(
-        alloc,
-        nullable,
-        first,
-        b,
-        &end,
-        0,
-        Symbol::Nonterminal(0),
-        &mut waiting,
-    )?;
-    add_all_stops(alloc, nullable, first, b, groups, &mut waiting)?;
-    Ok(waiting)
+    // Adds the stops behind the places of all owners.
+    fn add_all_stops(&self, alloc: Global, waiting: &mut Vec<Waiting>) -> Result<(), AllocError>
+        ensures { IfOk result (λ u. Adds (SomeBelow (length self.now.groups.now) (IsStopOf self.now.nullable.now self.now.first.now self.now.b self.now.groups.now))
+            waiting.old.items waiting.new.items) }
+    {
+        let groups = self.groups;
+        for n in 0..groups.len() {
+            let group = &groups[n];
+            self.add_stops_of(alloc, group.places.as_slice(), waiting)?;
+        }
+        Ok(())
+    }
+
+    /// The strings that are forced into the cells while there is nothing in any.
+    pub(crate) fn first_waiting(&self, alloc: Global) -> Result<Vec<Waiting>, AllocError>
+        ensures { IfOk result (λ v. Adds (IsFirstClaim self.now.nullable.now self.now.first.now self.now.b self.now.grammar.now self.now.groups.now) [] v.items) }
+    {
+        let text = [Symbol::Nonterminal(0), self.grammar.end_mark()];
+        let end = [self.grammar.end_mark()];
+        let mut waiting = Vec::new(alloc);
+        let begin = Context {
+            before: 0,
+            symbol: Symbol::Terminal(0),
+            after: &text,
+        };
+        self.add_stops(alloc, begin, &mut waiting)?;
+        let start = Context {
+            before: 0,
+            symbol: Symbol::Nonterminal(0),
+            after: &end,
+        };
+        self.add_stops(alloc, start, &mut waiting)?;
+        self.add_all_stops(alloc, &mut waiting)?;
+        Ok(waiting)
+    }
 }
 
 // Whether the place stands in a right side of the symbol, entered with that terminal matched last.
@@ -268,25 +241,23 @@ fn joined(alloc: Global, above: &[Symbol], below: &[Symbol]) -> Result<Vec<Symbo
     Ok(w)
 }
 
-// Adds what the place passes on of a string in the cell of its owner.
+// Adds what the place passes on of the owner's string, if the owner is that of the place.
 fn add_pass(
     alloc: Global,
     nullable: &[bool],
     place: &Place,
-    before: u16,
-    symbol: Symbol,
-    below: &[Symbol],
+    owner: &Waiting,
     waiting: &mut Vec<Waiting>,
 ) -> Result<(), AllocError>
-    ensures { IfOk result (λ u. Adds (IsPassAt nullable.now (record { before = before; symbol = symbol; stack = below.now }) place.now) waiting.old.items waiting.new.items) }
+    ensures { IfOk result (λ u. Adds (IsPassAt nullable.now owner.now place.now) waiting.old.items waiting.new.items) }
 {
-    if !is_owner(place, before, symbol) {
+    if !is_owner(place, owner.before, owner.symbol) {
         return Ok(());
     }
     if !all_vanish(nullable, place.after.as_slice()) {
         return Ok(());
     }
-    let stack = joined(alloc, place.after.as_slice(), below)?;
+    let stack = joined(alloc, place.after.as_slice(), owner.stack.as_slice())?;
     waiting.push(Waiting {
         before: place.before,
         symbol: place.symbol,
@@ -295,20 +266,18 @@ fn add_pass(
     Ok(())
 }
 
-/// Adds what these places pass on of a string in a cell.
+/// Adds what these places pass on of the string in their owner's cell.
 pub(crate) fn add_passes(
     alloc: Global,
     nullable: &[bool],
     places: &[Place],
-    before: u16,
-    symbol: Symbol,
-    below: &[Symbol],
+    owner: &Waiting,
     waiting: &mut Vec<Waiting>,
 ) -> Result<(), AllocError>
-    ensures { IfOk result (λ u. Adds (IsPassOf nullable.now (record { before = before; symbol = symbol; stack = below.now }) places.now) waiting.old.items waiting.new.items) }
+    ensures { IfOk result (λ u. Adds (IsPassOf nullable.now owner.now places.now) waiting.old.items waiting.new.items) }
 {
     for i in 0..places.len() {
-        add_pass(alloc, nullable, &places[i], before, symbol, below, waiting)?;
+        add_pass(alloc, nullable, &places[i], owner, waiting)?;
     }
     Ok(())
 }

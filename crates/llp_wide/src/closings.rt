@@ -54,27 +54,6 @@ fn find_stack(stacks: &[Closing], start: usize, closes: &[Symbol]) -> Option<usi
     None
 }
 
-/// The number of the stack with these symbols, which is added where there is none yet.
-fn number_of(
-    alloc: Global,
-    b: u16,
-    closes: &[Symbol],
-    start: usize,
-    stacks: &mut Vec<Closing>,
-) -> Result<u32, AllocError>
-    requires { length stacks.old.items < 2 ^ 32 }
-    ensures { IfOk result (λ n. (g : AnyGrammar) → (a : ℕ) × IsLookback g a b closes.now → AreClosedFor g b start stacks.old.items
-        → HasNumber g b start closes.now stacks.old.items stacks.new.items n) }
-{
-    if let Some(n) = find_stack(stacks.as_slice(), start, closes) {
-        return Ok(n as u32);
-    }
-    let n = stacks.len() as u32;
-    let closes = Vec::from_slice(alloc, closes)?;
-    stacks.push(Closing { ahead: b, closes })?;
-    Ok(n)
-}
-
 /// What the cell of z and a keeps where that is one string.
 fn only_member(classes: &[Members], z: u16, a: u16) -> Option<&[Symbol]>
     ensures { MatchOption result ((x : List AnySymbol) → cells_at classes.now z (AnyTerminal a) ≡ OneSlot x → ⊥) (λ x. cells_at classes.now z (AnyTerminal a) ≡ OneSlot x.now) }
@@ -88,25 +67,57 @@ fn only_member(classes: &[Members], z: u16, a: u16) -> Option<&[Symbol]>
     }
 }
 
-/// The number of the stack of a triple, or nothing where the triple has none.
-pub(crate) fn triple_number(
-    alloc: Global,
-    classes: &[Members],
-    z: u16,
-    a: u16,
-    b: u16,
-    start: usize,
-    stacks: &mut Vec<Closing>,
-) -> Result<Option<u32>, AllocError>
-    requires { length stacks.old.items < 2 ^ 32 }
-    ensures { IfOk result (λ number. (g : AnyGrammar) → IsWideLlpOn g b → TellWide g b classes.now → AreClosedFor g b start stacks.old.items
-        → TellsTriple g z a b start stacks.old.items stacks.new.items number) }
-{
-    match only_member(classes, z, a) {
-        Some(closes) => {
-            let number = number_of(alloc, b, closes, start, stacks)?;
-            Ok(Some(number))
+/// A layer of triples: the members of PSLS(z,a,b) for each z and a, where the terminal b comes next, and the number of the first stack
+/// that is closed before b.
+#[derive(Clone, Copy)]
+pub(crate) struct Layer<'a> {
+    pub classes: &'a [Members],
+    pub b: u16,
+    pub start: usize,
+}
+
+impl Layer<'_> {
+    /// The number of the stack with these symbols, which is added where there is none yet.
+    fn number_of(
+        &self,
+        alloc: Global,
+        closes: &[Symbol],
+        stacks: &mut Vec<Closing>,
+    ) -> Result<u32, AllocError>
+        requires { length stacks.old.items < 2 ^ 32 }
+        ensures { IfOk result (λ n. (g : AnyGrammar) → (a : ℕ) × IsLookback g a self.now.b closes.now → AreClosedFor g self.now.b self.now.start stacks.old.items
+            → HasNumber g self.now.b self.now.start closes.now stacks.old.items stacks.new.items n) }
+    {
+        if let Some(n) = find_stack(stacks.as_slice(), self.start, closes) {
+            return Ok(n as u32);
         }
-        None => Ok(None),
+        let n = stacks.len() as u32;
+        let closes = Vec::from_slice(alloc, closes)?;
+        stacks.push(Closing {
+            ahead: self.b,
+            closes,
+        })?;
+        Ok(n)
+    }
+
+    /// The number of the stack of a triple, or nothing where the triple has none.
+    pub(crate) fn triple_number(
+        &self,
+        alloc: Global,
+        z: u16,
+        a: u16,
+        stacks: &mut Vec<Closing>,
+    ) -> Result<Option<u32>, AllocError>
+        requires { length stacks.old.items < 2 ^ 32 }
+        ensures { IfOk result (λ number. (g : AnyGrammar) → IsWideLlpOn g self.now.b → TellWide g self.now.b self.now.classes.now → AreClosedFor g self.now.b self.now.start stacks.old.items
+            → TellsTriple g z a self.now.b self.now.start stacks.old.items stacks.new.items number) }
+    {
+        match only_member(self.classes, z, a) {
+            Some(closes) => {
+                let number = self.number_of(alloc, closes, stacks)?;
+                Ok(Some(number))
+            }
+            None => Ok(None),
+        }
     }
 }

@@ -1,9 +1,10 @@
 // Why a grammar has no tables where two terminals are looked back at.
 
-ghost use Rattle.std.specs.Prelude.{◌≡◌, IfOk, MatchOption};
+ghost use Rattle.std.specs.Prelude.{◌≡◌, ◌++◌, codes, IfOk, OnOk, MatchOption};
+ghost use Rattle.grammar_file.specs.declared.symbols.Symbol.TheVariants.{Terminal as AnyTerminal};
 ghost use Rattle.ll1_sets.specs.Predict.{IsLl1, IsNotLeftRecursive};
+ghost use Rattle.llp_tables.specs.FaultLines.{stack_text, text_of};
 ghost use Rattle.llp_wide.specs.WideFaults.{IsWideFault, line_of_wide_fault};
-ghost use Rattle.llp_wide.specs.declared.fault.WideFault.TheVariants.{Wide as AnyWide};
 
 use grammar_file::{Grammar, Symbol};
 use llp_tables::{Stack, TableFault, ll1_fault, push_name, push_stack};
@@ -77,17 +78,16 @@ pub(crate) fn prediction_fault(
     }
 }
 
-// The line of two stacks that may be closed before b, where z and then a are matched last.
-fn wide_line(
+// `conflict`, and the names of three terminals.
+fn conflict_line(
     alloc: Global,
     grammar: &Grammar,
     z: u16,
     a: u16,
     b: u16,
-    first: &Stack,
-    second: &Stack,
 ) -> Result<Vec<u8>, AllocError>
-    ensures { IfOk result (λ text. text.items ≡ line_of_wide_fault grammar.now (AnyWide z a b first.now second.now)) }
+    ensures { IfOk result (λ text. text.items
+        ≡ codes "conflict " ++ text_of grammar.now (AnyTerminal z) ++ codes " " ++ text_of grammar.now (AnyTerminal a) ++ codes " " ++ text_of grammar.now (AnyTerminal b)) }
 {
     let mut text = b"conflict ".to_vec(alloc)?;
     push_name(&mut text, grammar, Symbol::Terminal(z))?;
@@ -95,11 +95,23 @@ fn wide_line(
     push_name(&mut text, grammar, Symbol::Terminal(a))?;
     text.extend_from_slice(b" ")?;
     push_name(&mut text, grammar, Symbol::Terminal(b))?;
-    text.extend_from_slice(b": ")?;
-    push_stack(&mut text, grammar, first)?;
-    text.extend_from_slice(b" | ")?;
-    push_stack(&mut text, grammar, second)?;
     Ok(text)
+}
+
+// Writes two stacks behind the text.
+fn push_stacks(
+    text: &mut Vec<u8>,
+    grammar: &Grammar,
+    first: &Stack,
+    second: &Stack,
+) -> Result<(), AllocError>
+    ensures { OnOk result (text.new.items ≡ text.old.items ++ codes ": " ++ stack_text grammar.now first.now ++ codes " | " ++ stack_text grammar.now second.now) }
+{
+    text.extend_from_slice(b": ")?;
+    push_stack(text, grammar, first)?;
+    text.extend_from_slice(b" | ")?;
+    push_stack(text, grammar, second)?;
+    Ok(())
 }
 
 impl WideFault {
@@ -133,7 +145,11 @@ impl WideFault {
                 b,
                 first,
                 second,
-            } => wide_line(alloc, grammar, *z, *a, *b, first, second),
+            } => {
+                let mut text = conflict_line(alloc, grammar, *z, *a, *b)?;
+                push_stacks(&mut text, grammar, first, second)?;
+                Ok(text)
+            }
             WideFault::NoMemory => b"out of memory".to_vec(alloc),
         }
     }

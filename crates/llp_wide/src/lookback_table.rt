@@ -39,12 +39,12 @@ pub(crate) fn count_numbers(numbers: &[Option<u32>]) -> u64
     numbers.iter().filter(|number| number.is_some()).count() as u64
 }
 
-/// The stack whose number stands at a place, where there is one.
-fn stack_at<'a>(numbers: &[Option<u32>], stacks: &'a [Closing], place: usize) -> Option<&'a Closing>
-    ensures { MatchOption result (slice_index_or (map (item_at stacks.now) numbers.now) place None ≡ None) (λ c. slice_index_or (map (item_at stacks.now) numbers.now) place None ≡ Some c.now) }
+/// The item whose number stands at a place, where there is one.
+pub(crate) fn item_at<'a, T>(numbers: &[Option<u32>], items: &'a [T], place: usize) -> Option<&'a T>
+    ensures { MatchOption result (slice_index_or (map (item_at items.now) numbers.now) place None ≡ None) (λ x. slice_index_or (map (item_at items.now) numbers.now) place None ≡ Some x.now) }
 {
     match numbers.get(place) {
-        Some(Some(number)) => stacks.get(*number as usize),
+        Some(Some(number)) => items.get(*number as usize),
         _ => None,
     }
 }
@@ -92,7 +92,7 @@ impl WideLookbacks {
         }
         let width = self.width as usize;
         let place = (b as usize * width + z as usize) * width + a as usize;
-        match stack_at(self.numbers.as_slice(), self.stacks.as_slice(), place) {
+        match item_at(self.numbers.as_slice(), self.stacks.as_slice(), place) {
             Some(stack) => Some(symbols_of(stack)),
             None => None,
         }

@@ -11,6 +11,7 @@ ghost use Rattle.llp_wide.specs.Places.{AreSpots};
 ghost use Rattle.llp_wide.specs.Wide.{IsWideLookback};
 ghost use Rattle.llp_wide.specs.WideConflicts.{TellWide};
 
+use crate::claims::Ground;
 use crate::endings::endings;
 use crate::places::Group;
 use crate::search::least_wide_members;
@@ -33,7 +34,14 @@ pub(crate) fn members_on(
     ensures { IfOk result (λ v. TellWide grammar.now b v.items) }
 {
     let first = first(alloc, grammar, nullable, b)?;
-    least_wide_members(alloc, grammar, nullable, first.as_slice(), places, b)
+    let ground = Ground {
+        grammar,
+        nullable,
+        first: first.as_slice(),
+        groups: places,
+        b,
+    };
+    least_wide_members(alloc, &ground)
 }
 
 /// The members of PSLS(z,a,b) for each z and a, where the terminal b comes next: a class of cells for each z, and in it a cell for each

@@ -1,24 +1,20 @@
 // What is closed behind each symbol where one terminal comes next, by what is matched last before the symbol.
 
-ghost use Rattle.std.specs.Prelude.{◌≡◌, ◌<◌, ◌∷◌, [], ℕ, List, length, true, false, IfOk, OnOk, MatchOption};
+ghost use Rattle.std.specs.Prelude.{◌≡◌, ◌<◌, [], ℕ, List, length, true, false, IfOk, OnOk, MatchOption};
 ghost use Rattle.grammar_file.specs.declared.symbols.Symbol.{Symbol as AnySymbol};
-ghost use Rattle.grammar_file.specs.declared.symbols.Symbol.TheVariants.{Nonterminal as AnyNonterminal};
-ghost use Rattle.grammar_file.specs.Grammar.{IsWellFormed};
-ghost use Rattle.grammar_file.specs.Marks.{AreMarksOf};
 ghost use Rattle.llp_tables.specs.Lookbacks.{cells_at};
-ghost use Rattle.ll1_sets.specs.Predict.{IsNullable, IsFirst};
 ghost use Rattle.llp_tables.specs.Slots.{Empty as EmptySlots};
 ghost use Rattle.llp_wide.specs.Claims.{AreClaimsCovered, AreLeastWide, Claim as AnyClaim, IsPassOf};
 ghost use Rattle.llp_wide.specs.Added.{Adds};
 ghost use Rattle.llp_wide.specs.Classes.{HasWideCell, HasAdded, HasOpened, AreClasses, IsOpen};
 ghost use Rattle.llp_wide.specs.Grounds.{IsGround, IsFillingOn, AreClassesOn, room_on};
 ghost use Rattle.llp_wide.specs.Settling.{IsTakenOut};
-ghost use Rattle.llp_wide.specs.Places.{AreSpots, spots_behind};
+ghost use Rattle.llp_wide.specs.Places.{spots_behind};
 
-use crate::claims::{Waiting, add_passes, first_waiting, is_covered};
+use crate::claims::{Ground, Waiting, add_passes, is_covered};
 use crate::places::{Group, Place};
 use crate::queue::Queue;
-use grammar_file::{Grammar, Symbol};
+use grammar_file::Symbol;
 use llp_tables::Members;
 use std::alloc::{AllocError, Global};
 
@@ -105,22 +101,10 @@ fn passes(
         alloc,
         nullable,
         places_behind(groups, count, owner.before, owner.symbol),
-        owner.before,
-        owner.symbol,
-        owner.stack.as_slice(),
+        owner,
         &mut passed,
     )?;
     Ok(passed)
-}
-
-/// By what the cells are filled where the terminal b comes next.
-#[derive(Clone, Copy)]
-struct Ground<'a> {
-    grammar: &'a Grammar,
-    nullable: &'a [bool],
-    first: &'a [bool],
-    groups: &'a [Group],
-    b: u16,
 }
 
 // Takes the least string out that waits and that its cell doesn't cover. Strings that are covered wait no longer.
@@ -163,31 +147,17 @@ fn take(
 /// symbol. Strings come in from the least one on, so none is taken out again.
 pub(crate) fn least_wide_members(
     alloc: Global,
-    grammar: &Grammar,
-    nullable: &[bool],
-    first: &[bool],
-    groups: &[Group],
-    b: u16,
+    ground: &Ground<'_>,
 ) -> Result<Vec<Members>, AllocError>
-    requires well_formed { IsWellFormed grammar.now }
-    requires nullable { AreMarksOf grammar.now (λ a. IsNullable grammar.now (AnyNonterminal a ∷ [])) nullable.now }
-    requires first { AreMarksOf grammar.now (λ a. IsFirst grammar.now (AnyNonterminal a ∷ []) b) first.now }
-    requires places { AreSpots grammar.now groups.now }
-    ensures { IfOk result (λ v. AreLeastWide grammar.now b (cells_at v.items)) }
+    requires { IsGround ground.now }
+    ensures { IfOk result (λ v. AreLeastWide ground.now.grammar.now ground.now.b (cells_at v.items)) }
 {
-    let ground = Ground {
-        grammar,
-        nullable,
-        first,
-        groups,
-        b,
-    };
-    let terminals = grammar.terminals().len() + 3;
+    let terminals = ground.grammar.terminals().len() + 3;
     let mut classes = empty_classes(alloc, terminals)?;
-    let waiting = first_waiting(alloc, grammar, nullable, first, groups, b)?;
+    let waiting = ground.first_waiting(alloc)?;
     let mut queue = Queue::of(waiting);
     while let Some(claim) = next_waiting(classes.as_slice(), &mut queue) {
-        take(alloc, &ground, claim, &mut classes, &mut queue)?;
+        take(alloc, ground, claim, &mut classes, &mut queue)?;
     }
     Ok(classes)
 }

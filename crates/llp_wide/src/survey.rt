@@ -13,7 +13,7 @@ ghost use Rattle.llp_wide.specs.Surveys.{Finds, Opens, OpensIn, HaveRoom, place_
 ghost use Rattle.llp_wide.specs.declared.places.Entrance.{Entrance as AnyEntrance};
 
 use crate::endings::LastMarks;
-use crate::places::{Entrance, Group, Place, add_places};
+use crate::places::{Collector, Entrance, Group, Place};
 use grammar_file::{Grammar, Symbol};
 use llp_tables::no_marks;
 use std::alloc::{AllocError, Global};
@@ -138,14 +138,12 @@ pub(crate) fn places(
     })?;
     while let Some(entrance) = next_entrance(&mut waiting) {
         let mut own = Vec::new(alloc);
-        add_places(
-            alloc,
+        let collector = Collector {
             nullable,
             all,
-            grammar.productions(),
-            entrance,
-            &mut own,
-        )?;
+            owner: entrance,
+        };
+        collector.add_places(alloc, grammar.productions(), &mut own)?;
         enter_places(own.as_slice(), count, &mut marks, &mut waiting)?;
         keep(&mut groups, place_of(entrance, count), own);
     }

@@ -1,6 +1,6 @@
 // The numbers of the stacks that are closed for all triples, a layer for each terminal that comes next.
 
-ghost use Rattle.std.specs.Prelude.{◌≡◌, ◌<◌, ◌+◌, ◌∷◌, [], length, true, None, IfOk, IfSome, OnOk, MatchOption};
+ghost use Rattle.std.specs.Prelude.{◌≡◌, ◌<◌, ◌+◌, ◌∷◌, [], Some, None, IfOk, IfSome, OnOk, MatchOption};
 ghost use Rattle.grammar_file.specs.declared.symbols.Symbol.TheVariants.{Nonterminal as AnyNonterminal};
 ghost use Rattle.grammar_file.specs.Grammar.{IsWellFormed};
 ghost use Rattle.grammar_file.specs.Marks.{AreMarksOf};
@@ -12,7 +12,7 @@ ghost use Rattle.llp_wide.specs.Wide.{IsWideLlp, IsLeastWideConflict};
 ghost use Rattle.llp_wide.specs.WideConflicts.{IsWideLlpOn, LeastWideBelow, TellWide};
 ghost use Rattle.llp_wide.specs.WideEntries.{triple_place};
 
-use crate::closings::{Closing, triple_number};
+use crate::closings::{Closing, Layer};
 use crate::conflicts::{WideConflict, conflict_on, lesser};
 use crate::members::members_on;
 use crate::places::Group;
@@ -28,94 +28,83 @@ pub(crate) struct Triples {
     pub stacks: Vec<Closing>,
 }
 
-/// Adds the row of z.
-fn add_row(
-    alloc: Global,
-    grammar: &Grammar,
-    classes: &[Members],
-    z: u16,
-    b: u16,
-    start: usize,
-    triples: &mut Triples,
-) -> Result<(), AllocError>
-    requires llp { IsWideLlpOn grammar.now b }
-    requires classes { TellWide grammar.now b classes.now }
-    requires before { z < width_of grammar.now }
-    requires ahead { b < width_of grammar.now }
-    requires triples { AreTriplesUpTo grammar.now b start (triple_place (width_of grammar.now) z 0 b) triples.old.numbers.items triples.old.stacks.items }
-    ensures { OnOk result (AreTriplesUpTo grammar.now b start (triple_place (width_of grammar.now) (z + 1) 0 b) triples.new.numbers.items triples.new.stacks.items) }
-{
-    for a in 0..grammar.terminals().len() as u16 + 2 {
-        let number = triple_number(alloc, classes, z, a, b, start, &mut triples.stacks)?;
-        triples.numbers.push(number)?;
+impl Triples {
+    /// Adds the row of z in a layer.
+    fn add_row(
+        &mut self,
+        alloc: Global,
+        grammar: &Grammar,
+        layer: &Layer<'_>,
+        z: u16,
+    ) -> Result<(), AllocError>
+        requires llp { IsWideLlpOn grammar.now layer.now.b }
+        requires classes { TellWide grammar.now layer.now.b layer.now.classes.now }
+        requires before { z < width_of grammar.now }
+        requires ahead { layer.now.b < width_of grammar.now }
+        requires triples { AreTriplesUpTo grammar.now layer.now.b layer.now.start (triple_place (width_of grammar.now) z 0 layer.now.b) self.old.numbers.items self.old.stacks.items }
+        ensures { OnOk result (AreTriplesUpTo grammar.now layer.now.b layer.now.start (triple_place (width_of grammar.now) (z + 1) 0 layer.now.b) self.new.numbers.items self.new.stacks.items) }
+    {
+        for a in 0..grammar.terminals().len() as u16 + 2 {
+            let number = layer.triple_number(alloc, z, a, &mut self.stacks)?;
+            self.numbers.push(number)?;
+        }
+        Ok(())
     }
-    Ok(())
+
+    /// Adds the layer of a terminal that comes next.
+    fn add_layer(
+        &mut self,
+        alloc: Global,
+        grammar: &Grammar,
+        classes: &[Members],
+        b: u16,
+    ) -> Result<(), AllocError>
+        requires llp { IsWideLlpOn grammar.now b }
+        requires classes { TellWide grammar.now b classes.now }
+        requires ahead { b < width_of grammar.now }
+        requires layers { AreLayers grammar.now b self.old.numbers.items self.old.stacks.items }
+        ensures { OnOk result (AreLayers grammar.now (b + 1) self.new.numbers.items self.new.stacks.items) }
+    {
+        let start = self.stacks.len();
+        let layer = Layer { classes, b, start };
+        for z in 0..width_of(grammar) {
+            self.add_row(alloc, grammar, &layer, z)?;
+        }
+        Ok(())
+    }
 }
 
-/// Adds the layer of a terminal that comes next.
-fn add_layer(
-    alloc: Global,
-    grammar: &Grammar,
-    classes: &[Members],
-    b: u16,
-    triples: &mut Triples,
-) -> Result<(), AllocError>
-    requires llp { IsWideLlpOn grammar.now b }
-    requires classes { TellWide grammar.now b classes.now }
-    requires ahead { b < width_of grammar.now }
-    requires layers { AreLayers grammar.now b triples.old.numbers.items triples.old.stacks.items }
-    ensures { OnOk result (AreLayers grammar.now (b + 1) triples.new.numbers.items triples.new.stacks.items) }
-{
-    let start = triples.stacks.len();
-    for z in 0..width_of(grammar) {
-        add_row(alloc, grammar, classes, z, b, start, triples)?;
-    }
-    Ok(())
-}
-
-// Whether there is no conflict.
-fn is_free(conflict: &Option<WideConflict>) -> bool
-    ensures { result ≡ true → conflict.now ≡ None }
+// The triples, where there is no conflict.
+fn if_free(conflict: &Option<WideConflict>, triples: Option<Triples>) -> Option<Triples>
+    ensures { IfSome result (λ t. (triples ≡ Some t) × (conflict.now ≡ None)) }
 {
     match conflict {
-        Some(_) => false,
-        None => true,
+        Some(_) => None,
+        None => triples,
     }
 }
 
-// Adds the layer of b where none has been left out so far, there is no conflict, and memory is enough. Tells whether none is left out.
-fn is_added(
+// The triples with the layer of b, where there are any and memory is enough.
+fn with_layer(
     alloc: Global,
     grammar: &Grammar,
     classes: &[Members],
     b: u16,
-    is_whole: bool,
-    conflict: &Option<WideConflict>,
-    triples: &mut Triples,
-) -> bool
-    requires conflict { LeastWideBelow grammar.now (b + 1) conflict.now }
+    triples: Option<Triples>,
+) -> Option<Triples>
+    requires llp { IfSome triples (λ t. IsWideLlpOn grammar.now b) }
     requires classes { TellWide grammar.now b classes.now }
     requires ahead { b < width_of grammar.now }
-    requires layers { is_whole ≡ true → AreLayers grammar.now b triples.old.numbers.items triples.old.stacks.items }
-    ensures { result ≡ true → AreLayers grammar.now (b + 1) triples.new.numbers.items triples.new.stacks.items }
+    requires layers { IfSome triples (λ t. AreLayers grammar.now b t.numbers.items t.stacks.items) }
+    ensures { IfSome result (λ t. AreLayers grammar.now (b + 1) t.numbers.items t.stacks.items) }
 {
-    if !is_whole {
-        return false;
+    match triples {
+        Some(mut triples) => match triples.add_layer(alloc, grammar, classes, b) {
+            Ok(()) => Some(triples),
+            Err(AllocError) => None,
+        },
+        None => None,
     }
-    if !is_free(conflict) {
-        return false;
-    }
-    match add_layer(alloc, grammar, classes, b, triples) {
-        Ok(()) => true,
-        Err(AllocError) => false,
-    }
-}
-
-// The triples, if they are whole.
-fn triples_if(is_whole: bool, triples: Triples) -> Option<Triples>
-    ensures { IfSome result (λ t. (t ≡ triples) × (is_whole ≡ true)) }
-{
-    if is_whole { Some(triples) } else { None }
 }
 
 /// The least conflict: the least z, then the least a, then the least b, and the two least members of PSLS(z,a,b). There is none
@@ -133,25 +122,17 @@ pub(crate) fn conflict_or_triples(
     ensures conflict { IfOk result (λ r. MatchOption r.0 (IsWideLlp grammar.now) (λ k. IsLeastWideConflict grammar.now k.z k.a k.b k.first k.second)) }
     ensures triples { IfOk result (λ r. IfSome r.1 (λ t. AreLayers grammar.now (width_of grammar.now) t.numbers.items t.stacks.items)) }
 {
-    let mut triples = Triples {
+    let mut triples = Some(Triples {
         numbers: Vec::new(alloc),
         stacks: Vec::new(alloc),
-    };
+    });
     let mut best = None;
-    let mut is_whole = true;
     for b in 0..width_of(grammar) {
         let classes = members_on(alloc, grammar, nullable, places, b)?;
         let next = conflict_on(alloc, grammar, classes.as_slice(), b)?;
         best = lesser(best, next);
-        is_whole = is_added(
-            alloc,
-            grammar,
-            classes.as_slice(),
-            b,
-            is_whole,
-            &best,
-            &mut triples,
-        );
+        let free = if_free(&best, triples);
+        triples = with_layer(alloc, grammar, classes.as_slice(), b, free);
     }
-    Ok((best, triples_if(is_whole, triples)))
+    Ok((best, triples))
 }

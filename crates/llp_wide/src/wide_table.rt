@@ -1,13 +1,13 @@
 // The tables of a grammar, as a value.
 
-ghost use Rattle.std.specs.Prelude.{◌≡◌, length, map, count_by, is_some, slice_index_or, None, Some, MatchOption};
+ghost use Rattle.std.specs.Prelude.{◌≡◌, length, map, count_by, is_some, None, Some, MatchOption};
 ghost use Rattle.std.specs.List.{AllByRecursion};
 ghost use Rattle.grammar_file.specs.Grammar.{Grammar as AnyGrammar};
 ghost use Rattle.llp_tables.specs.Tables.{Entry as AnyEntry};
 ghost use Rattle.llp_wide.specs.WideLookbacks.{IsNumberOf, item_at};
 ghost use Rattle.llp_wide.specs.WideEntries.{AreWideTablesOf, CountsTriples, wide_entry_of};
 
-use crate::lookback_table::count_numbers;
+use crate::lookback_table::{count_numbers, item_at};
 use crate::pieces::WidePiece;
 use llp_tables::Entry;
 use std::marker::Model;
@@ -35,20 +35,6 @@ impl Model for WideTables {
     } };
 
     ghost invariant = { λ t. AllByRecursion (IsNumberOf (length t.pieces.items)) t.numbers.items };
-}
-
-/// The piece whose number stands at a place, where there is one.
-fn piece_at<'a>(
-    numbers: &[Option<u32>],
-    pieces: &'a [WidePiece],
-    place: usize,
-) -> Option<&'a WidePiece>
-    ensures { MatchOption result (slice_index_or (map (item_at pieces.now) numbers.now) place None ≡ None) (λ p. slice_index_or (map (item_at pieces.now) numbers.now) place None ≡ Some p.now) }
-{
-    match numbers.get(place) {
-        Some(Some(number)) => pieces.get(*number as usize),
-        _ => None,
-    }
 }
 
 /// The entry that a piece stands for.
@@ -88,7 +74,7 @@ impl WideTables {
         }
         let width = self.width as usize;
         let place = (b as usize * width + z as usize) * width + a as usize;
-        match piece_at(self.numbers.as_slice(), self.pieces.as_slice(), place) {
+        match item_at(self.numbers.as_slice(), self.pieces.as_slice(), place) {
             Some(piece) => Some(told(piece)),
             None => None,
         }

@@ -11,6 +11,6 @@ loop-i-preserved c =
     let spots = c.args.places.now in
     let spot : Spot = c.index-places-i.result in
     let is : slice_get spots c.loop-i.i ≡ Some spot = slice_get-get_or spots c.loop-i.i spot c.loop-i-test.true ∙ ap Some (sym c.index-places-i.is) in
-    let owner : Claim = record { before = c.args.before; symbol = c.args.symbol; stack = c.args.below.now } in
+    let owner : Claim = c.args.owner.now in
     adds_next (λ i claim. (s : Spot) × (slice_get spots i ≡ Some s) × IsPassAt c.args.nullable.now owner s claim) c.loop-i.i c.args.waiting.now.items c.loop-i.waiting.items c.add_pass.new.waiting.items c.loop-i.invariant
     (by_spot spots c.loop-i.i spot (IsPassAt c.args.nullable.now owner) c.loop-i.waiting.items c.add_pass.new.waiting.items is c.in_ok-add_pass.ensures)

@@ -6,4 +6,4 @@ use Rattle.llp_wide.proofs.claims.add_passes.Given as goal
 
 abbrev pub invariant-loop-i : goal.invariant-loop-i
 invariant-loop-i l =
-    Adds (SomeBelow l.i (λ i claim. (spot : Spot) × (slice_get l.places i ≡ Some spot) × IsPassAt l.nullable (record { before = l.before; symbol = l.symbol; stack = l.below }) spot claim)) l.fn.waiting.items l.waiting.items
+    Adds (SomeBelow l.i (λ i claim. (spot : Spot) × (slice_get l.places i ≡ Some spot) × IsPassAt l.nullable l.owner spot claim)) l.fn.waiting.items l.waiting.items
