@@ -1,0 +1,5 @@
+pub mod Ranges
+pub mod Four
+pub mod Cutting
+pub mod Joining
+pub mod Together

@@ -1,0 +1,3 @@
+pub mod Kin
+pub mod Lists
+pub mod Dealt

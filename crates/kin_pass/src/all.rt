@@ -1,0 +1,79 @@
+//! The kin of all rows.
+ghost use Rattle.std.specs.Prelude.{◌≡◌, ◌<◌, ◌≤◌, ◌^◌, length, IfOk};
+ghost use Rattle.list_cuts.specs.Cuts.{AreCuts};
+ghost use Rattle.row_kin.specs.Alone.{ties_by_stretches, ties_from};
+ghost use Rattle.kin_pass.specs.Kin.{AreKin, AreTies};
+ghost use Rattle.kin_pass.specs.Lists.{HasRows};
+
+use crate::ends::stretch_ends;
+use crate::lent::lend_all;
+use par_passes::Passes;
+use row_kin::{Kin, kin_settled, kin_stretch};
+use std::alloc::{AllocError, Global};
+
+// Lists of so many zeros.
+fn blank_kin(alloc: Global, rows: usize) -> Result<Kin, AllocError>
+    ensures { IfOk result (λ v. HasRows rows v) }
+{
+    Ok(Kin {
+        parents: vec![in alloc; 0; rows]?,
+        lows: vec![in alloc; 0; rows]?,
+        places: vec![in alloc; 0; rows]?,
+        counts: vec![in alloc; 0; rows]?,
+    })
+}
+
+// What is known of the rows in one stretch, written into these lists.
+fn write_alone(lows: &[u32], kin: Kin) -> Kin
+    requires few { length lows.now ≤ 4294967295 }
+    requires wide { HasRows (length lows.now) kin }
+    ensures { AreTies (ties_from 0 lows.now) result.parents.items result.lows.items result.places.items result.counts.items }
+{
+    let Kin {
+        mut parents,
+        lows: mut firsts,
+        mut places,
+        mut counts,
+    } = kin;
+    kin_stretch(
+        lows,
+        0,
+        parents.as_mut_slice(),
+        firsts.as_mut_slice(),
+        places.as_mut_slice(),
+        counts.as_mut_slice(),
+    );
+    Kin {
+        parents,
+        lows: firsts,
+        places,
+        counts,
+    }
+}
+
+// What the stretches that end at these places know by themselves, one behind the other.
+fn known_kin(crew: &impl Passes, lows: &[u32], ends: &[usize]) -> Result<Kin, AllocError>
+    requires few { length lows.now ≤ 4294967295 }
+    requires cuts { AreCuts ends.now (length lows.now) }
+    requires count { length ends.now < 2 ^ 62 }
+    ensures { IfOk result (λ v. AreTies (ties_by_stretches lows.now ends.now) v.parents.items v.lows.items v.places.items v.counts.items) }
+{
+    let blank = blank_kin(crew.alloc(), lows.len())?;
+    if ends.len() <= 1 {
+        return Ok(write_alone(lows, blank));
+    }
+    lend_all(crew, lows, ends, blank)
+}
+
+/// The kin of rows whose subtrees begin at these ones. `shares` says how many stretches each worker has, where they are no shorter than a chunk; one
+/// worker takes all rows in one. It is the same for every crew and all shares. The only refusal is that memory is out.
+pub fn kin(crew: &impl Passes, lows: &[u32], shares: u32) -> Result<Kin, AllocError>
+    requires few { length lows.now ≤ 4294967295 }
+    requires shares { 0 < shares }
+    ensures { IfOk result (λ v. AreKin lows.now v) }
+{
+    let crew = &crew.for_items(lows.len());
+    let ends = stretch_ends(crew, lows.len(), shares)?;
+    let known = known_kin(crew, lows, ends.as_slice())?;
+    Ok(kin_settled(lows, ends.as_slice(), known))
+}
