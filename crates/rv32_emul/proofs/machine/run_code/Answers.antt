@@ -1,4 +1,4 @@
-use Rattle.std.proofs.Common.{◌≡◌, ℕ, Option, Some, refl, sym, subst, ◌∙◌, arith, Result}
+use Rattle.std.proofs.Common.{◌≡◌, ◌%◌, ◌≤◌, ℕ, Option, Some, refl, sym, subst, ◌∙◌, arith, Result}
 use Rattle.std.specs.Prelude.{option_map}
 use Rattle.rv_isa.specs.declared.hart.Step.TheVariants.{Went}
 use Rattle.rv_isa.specs.Memory.{fetched}
@@ -11,8 +11,8 @@ use Rattle.rv32_emul.proofs.Taken.{kept-step, kept-prints, taken-more, continues
 use Rattle.rv32_emul.proofs.Unchanged.{effect-fixed}
 use Rattle.rv32_emul.proofs.machine.run_code.Goals as goal
 
-pub returns-then-hart-base-clause-took : goal.returns-then-hart-base-clause-took
-returns-then-hart-base-clause-took c = continues-quiet Went c.args.steps c.loop-left.left (state c.args.start c.args.memory.now) (state c.loop-left.hart c.loop-left.memory) refl c.loop-left.invariant.fits c.loop-left.invariant.so_far
+pub returns-then-pc-base-clause-took : goal.returns-then-pc-base-clause-took
+returns-then-pc-base-clause-took c = continues-quiet Went c.args.steps c.loop-left.left (state c.args.start c.args.memory.now) (state c.loop-left.hart c.loop-left.memory) refl c.loop-left.invariant.fits c.loop-left.invariant.so_far
 
 pub returns-then-index-code-clause-took : goal.returns-then-index-code-clause-took
 returns-then-index-code-clause-took c = continues-quiet Went c.args.steps c.loop-left.left (state c.args.start c.args.memory.now) (state c.loop-left.hart c.loop-left.memory) refl c.loop-left.invariant.fits c.loop-left.invariant.so_far
@@ -23,8 +23,13 @@ loop-left-preserved c =
     let there : State = state c.execute.new.hart c.execute.new.memory in
     let code : IsCode (record { start = c.args.base; instructions = c.args.code.now }) (fixed c.loop-left.memory) =
     subst (λ (f : ℕ → Option ℕ). IsCode (record { start = c.args.base; instructions = c.args.code.now }) f) (sym c.loop-left.invariant.stays) c.requires.code in
+    let pc : ℕ = c.pc-in-loop-left.result in
+    let pc_is : pc ≡ c.loop-left.hart.pc = c.pc-in-loop-left.ensures in
+    let even : pc % 4 ≡ 0 = subst (λ (a : ℕ). a % 4 ≡ 0) (sym pc_is) c.loop-left.invariant.aligned in
+    let late : c.args.base ≤ pc = subst (λ (a : ℕ). c.args.base ≤ a) (c.pc.ensures ∙ sym pc_is) c.if-pc-base.false in
     let at_pc : (option_map decoded (fetched c.loop-left.memory c.loop-left.hart.pc) ≡ Some (Some c.in-Some.instruction)) × InRange c.in-Some.instruction =
-    code-at c.args.base c.args.code.now c.loop-left.memory c.loop-left.hart.pc c.in-Some.instruction code c.loop-left.invariant.aligned c.if-hart-base.false c.if-index-code.false c.in-Some.is in
+    subst (λ (a : ℕ). (option_map decoded (fetched c.loop-left.memory a) ≡ Some (Some c.in-Some.instruction)) × InRange c.in-Some.instruction) pc_is
+    (code-at c.args.base c.args.code.now c.loop-left.memory pc c.in-Some.instruction code even late c.if-index-code.false c.in-Some.is) in
     record {
       aligned = c.execute.ensures.aligned;
       fits = omega (arith, c.loop-left-test.true, c.loop-left.invariant.fits);
@@ -40,8 +45,13 @@ returns-in_default c =
     let there : State = state c.execute.new.hart c.execute.new.memory in
     let code : IsCode (record { start = c.args.base; instructions = c.args.code.now }) (fixed c.loop-left.memory) =
     subst (λ (f : ℕ → Option ℕ). IsCode (record { start = c.args.base; instructions = c.args.code.now }) f) (sym c.loop-left.invariant.stays) c.requires.code in
+    let pc : ℕ = c.pc-in-loop-left.result in
+    let pc_is : pc ≡ c.loop-left.hart.pc = c.pc-in-loop-left.ensures in
+    let even : pc % 4 ≡ 0 = subst (λ (a : ℕ). a % 4 ≡ 0) (sym pc_is) c.loop-left.invariant.aligned in
+    let late : c.args.base ≤ pc = subst (λ (a : ℕ). c.args.base ≤ a) (c.pc.ensures ∙ sym pc_is) c.if-pc-base.false in
     let at_pc : (option_map decoded (fetched c.loop-left.memory c.loop-left.hart.pc) ≡ Some (Some c.in-Some.instruction)) × InRange c.in-Some.instruction =
-    code-at c.args.base c.args.code.now c.loop-left.memory c.loop-left.hart.pc c.in-Some.instruction code c.loop-left.invariant.aligned c.if-hart-base.false c.if-index-code.false c.in-Some.is in
+    subst (λ (a : ℕ). (option_map decoded (fetched c.loop-left.memory a) ≡ Some (Some c.in-Some.instruction)) × InRange c.in-Some.instruction) pc_is
+    (code-at c.args.base c.args.code.now c.loop-left.memory pc c.in-Some.instruction code even late c.if-index-code.false c.in-Some.is) in
     record {
       took = continues-last c.args.steps c.loop-left.left (state c.args.start c.args.memory.now) here there c.execute.result c.loop-left-test.true c.loop-left.invariant.fits c.loop-left.invariant.so_far
           (subst (λ (r : Result State Ending). Answers r here c.execute.result there) (sym (kept-step c.in-Some.instruction here at_pc.0)) c.execute.ensures.effect)

@@ -1,5 +1,8 @@
-use Rattle.std.proofs.Common.{sym, subst, refl, ◌∙◌, arith, Result}
+use Rattle.std.proofs.Common.{◌≡◌, ℕ, Some, sym, subst, refl, ◌∙◌, arith, Result}
+use Rattle.std.specs.Prelude.{option_map}
 use Rattle.rv_isa.specs.declared.hart.Step.TheVariants.{Went}
+use Rattle.rv_isa.specs.Memory.{fetched}
+use Rattle.rv_isa.specs.Encoding.{decoded}
 use Rattle.rv_isa.specs.Effect.{State, Ending, Answers, state}
 use Rattle.rv32_emul.proofs.Taken.{kept-step, kept-prints, taken-more, continues-quiet, continues-last, continues-any}
 use Rattle.rv32_emul.proofs.Unchanged.{effect-fixed, step-fixed}
@@ -9,12 +12,14 @@ pub loop-left-preserved : goal.loop-left-preserved
 loop-left-preserved c =
     let here : State = state c.loop-left.hart c.loop-left.memory in
     let there : State = state c.execute.new.hart c.execute.new.memory in
+    let at_pc : option_map decoded (fetched c.loop-left.memory c.loop-left.hart.pc) ≡ Some (Some c.in-Some.instruction) =
+    subst (λ (a : ℕ). option_map decoded (fetched c.loop-left.memory a) ≡ Some (Some c.in-Some.instruction)) c.pc.ensures c.in-Some.ensures.0 in
     record {
       aligned = c.execute.ensures.aligned;
       fits = omega (arith, c.loop-left-test.true, c.loop-left.invariant.fits);
       so_far = taken-more c.args.steps c.loop-left.left (state c.args.start c.args.memory.now) here there c.loop-left-test.true c.loop-left.invariant.fits c.loop-left.invariant.so_far
-          (kept-step c.in-Some.instruction here c.in-Some.ensures.0 ∙ c.in-Went.ensures.effect)
-          (kept-prints c.in-Some.instruction here c.in-Some.ensures.0 ∙ sym c.in-Went.ensures.prints);
+          (kept-step c.in-Some.instruction here at_pc ∙ c.in-Went.ensures.effect)
+          (kept-prints c.in-Some.instruction here at_pc ∙ sym c.in-Went.ensures.prints);
       stays = effect-fixed c.in-Some.instruction here there c.execute.result c.execute.ensures.effect ∙ c.loop-left.invariant.stays;
     }
 
@@ -22,10 +27,12 @@ pub returns-in_default : goal.returns-in_default
 returns-in_default c =
     let here : State = state c.loop-left.hart c.loop-left.memory in
     let there : State = state c.execute.new.hart c.execute.new.memory in
+    let at_pc : option_map decoded (fetched c.loop-left.memory c.loop-left.hart.pc) ≡ Some (Some c.in-Some.instruction) =
+    subst (λ (a : ℕ). option_map decoded (fetched c.loop-left.memory a) ≡ Some (Some c.in-Some.instruction)) c.pc.ensures c.in-Some.ensures.0 in
     record {
       took = continues-last c.args.steps c.loop-left.left (state c.args.start c.args.memory.now) here there c.execute.result c.loop-left-test.true c.loop-left.invariant.fits c.loop-left.invariant.so_far
-          (subst (λ (r : Result State Ending). Answers r here c.execute.result there) (sym (kept-step c.in-Some.instruction here c.in-Some.ensures.0)) c.execute.ensures.effect)
-          (c.execute.ensures.prints ∙ sym (kept-prints c.in-Some.instruction here c.in-Some.ensures.0)) c.in_default.not-Went;
+          (subst (λ (r : Result State Ending). Answers r here c.execute.result there) (sym (kept-step c.in-Some.instruction here at_pc)) c.execute.ensures.effect)
+          (c.execute.ensures.prints ∙ sym (kept-prints c.in-Some.instruction here at_pc)) c.in_default.not-Went;
       fewer = omega (arith, c.loop-left-test.true, c.loop-left.invariant.fits);
       aligned = c.execute.ensures.aligned;
       fixed = effect-fixed c.in-Some.instruction here there c.execute.result c.execute.ensures.effect ∙ c.loop-left.invariant.stays;
