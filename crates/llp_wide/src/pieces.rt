@@ -9,7 +9,7 @@ ghost use Rattle.llp_wide.specs.WideLookbacks.{AreClosed, IsClosed};
 
 use crate::closings::Closing;
 use grammar_file::{Grammar, Symbol};
-use llp_tables::{PieceRoom, add_piece, first, nullable, predictions};
+use llp_tables::{LookAhead, PieceRoom, first, nullable, predictions};
 use std::alloc::{AllocError, Global};
 use std::marker::Model;
 
@@ -95,25 +95,15 @@ fn piece_of(
     requires closed { IsClosed grammar.now stack.now }
     ensures { IfOk result (IsMadeFor grammar.now stack.now) }
 {
-    let predictions = ahead.predictions.as_slice();
-    let first = ahead.first.as_slice();
+    let sets = LookAhead {
+        grammar,
+        b: stack.ahead,
+        first: ahead.first.as_slice(),
+        predictions: ahead.predictions.as_slice(),
+    };
     let closes = stack.closes.as_slice();
-    let mut productions = room.no_productions(
-        alloc,
-        grammar,
-        first,
-        predictions,
-        stack.ahead,
-        closes,
-    )?;
-    let opens = add_piece(
-        alloc,
-        grammar,
-        predictions,
-        stack.ahead,
-        closes,
-        &mut productions,
-    )?;
+    let mut productions = room.no_productions(alloc, &sets, closes)?;
+    let opens = sets.add_piece(alloc, closes, &mut productions)?;
     let closes = Vec::from_slice(alloc, closes)?;
     Ok(WidePiece {
         closes,
