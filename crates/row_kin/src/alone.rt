@@ -4,7 +4,7 @@ ghost use Rattle.std.specs.List.{range_with_len};
 ghost use Rattle.ast_rows.specs.NodeRows.{lows_of, counts_of};
 ghost use Rattle.row_laws.specs.Climbed.{parents_by, place_at};
 
-use crate::intake::{number_taken, take_in};
+use crate::intake::Taker;
 
 /// What is known of rows, each a list by their numbers.
 #[derive(Drop)]
@@ -38,8 +38,9 @@ pub(crate) fn kin_into(
     ensures counts { counts.new ≡ counts_of (parents_by lows.now) }
 {
     for i in 0..lows.len() {
-        let intake = take_in(lows, i, i, parents, firsts);
-        number_taken(lows, i, intake, firsts, places);
+        let taker = Taker { lows, row: i };
+        let intake = taker.take_in(i, parents, firsts);
+        taker.number_taken(intake, firsts, places);
         parents[i] = i as u32;
         firsts[i] = intake.first as u32;
         places[i] = 0;

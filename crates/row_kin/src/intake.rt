@@ -10,72 +10,94 @@ pub(crate) struct Intake {
     pub(crate) count: u32,
 }
 
-// Whether row i takes in the row before top.
-fn takes(lows: &[u32], i: usize, top: usize) -> bool
-    requires within { i < length lows.now }
-    requires room { top ≤ i }
-    ensures yes { result ≡ true → (0 < top) × (number_at lows.now i ≤ number_at lows.now (top - 1)) }
-    ensures no { result ≡ false → (top ≡ 0) ⊎ (number_at lows.now (top - 1) < number_at lows.now i) }
-{
-    top > 0 && lows[i] <= lows[top - 1]
+/// A row that takes in rows before it. `lows` says where the subtrees of all rows begin.
+#[derive(Clone, Copy)]
+pub(crate) struct Taker<'a> {
+    pub lows: &'a [u32],
+    pub row: usize,
 }
 
-/// Takes in the roots before `start` that lie in the subtree of row i, from the first row of one to the row before it, and notes that i
-/// is their parent.
-pub(crate) fn take_in(
-    lows: &[u32],
-    i: usize,
-    start: usize,
-    parents: &mut [u32],
-    firsts: &[u32],
-) -> Intake
-    requires few { length lows.now ≤ 4294967295 }
-    requires within { i < length lows.now }
-    requires parents { length parents.old ≡ length lows.now }
-    requires firsts { length firsts.now ≡ length lows.now }
-    requires order { start ≤ i }
-    requires looks { Looks lows.now i start }
-    requires roots { (k : ℕ) → k < start → number_at parents.old k ≡ parent_by lows.now i k }
-    requires begun { (k : ℕ) → k < start → number_at firsts.now k ≡ first_of lows.now k }
-    ensures first { result.first ≡ first_of lows.now i }
-    ensures low { result.first ≤ start }
-    ensures count { result.count ≡ taken_by lows.now i start }
-    ensures taken { (k : ℕ) → k < start → number_at parents.new k ≡ parent_by lows.now (i + 1) k }
-    ensures kept { (k : ℕ) → start ≤ k → number_at parents.new k ≡ number_at parents.old k }
-{
-    let mut top = start;
-    let mut count: u32 = 0;
-    while takes(lows, i, top) {
-        parents[top - 1] = i as u32;
-        top = firsts[top - 1] as usize;
-        count += 1;
+impl Taker<'_> {
+    // Whether the row takes in the one before top.
+    fn takes(&self, top: usize) -> bool
+        requires within { self.now.row < length self.now.lows.now }
+        requires room { top ≤ self.now.row }
+        ensures yes { result ≡ true → (0 < top) × (number_at self.now.lows.now self.now.row ≤ number_at self.now.lows.now (top - 1)) }
+        ensures no { result ≡ false → (top ≡ 0) ⊎ (number_at self.now.lows.now (top - 1) < number_at self.now.lows.now self.now.row) }
+    {
+        top > 0 && self.lows[self.row] <= self.lows[top - 1]
     }
-    Intake { first: top, count }
-}
 
-/// Numbers the rows that row i has taken in, from the last one down.
-pub(crate) fn number_taken(
-    lows: &[u32],
-    i: usize,
-    intake: Intake,
-    firsts: &[u32],
-    places: &mut [u32],
-)
-    requires few { length lows.now ≤ 4294967295 }
-    requires within { i < length lows.now }
-    requires places { length places.old ≡ length lows.now }
-    requires firsts { length firsts.now ≡ length lows.now }
-    requires first { intake.first ≡ first_of lows.now i }
-    requires count { intake.count ≡ taken_by lows.now i i }
-    requires begun { (k : ℕ) → k < i → number_at firsts.now k ≡ first_of lows.now k }
-    ensures placed { (k : ℕ) → k < i → number_at places.new k ≡ placed_by lows.now i k (number_at places.old k) }
-    ensures kept { (k : ℕ) → i ≤ k → number_at places.new k ≡ number_at places.old k }
-{
-    let mut top = i;
-    let mut rank = intake.count;
-    while top > intake.first {
-        rank -= 1;
-        places[top - 1] = rank;
-        top = firsts[top - 1] as usize;
+    /// Takes in the roots before `start` that lie in the row's subtree, from the first row of one to the row before it, and notes that
+    /// the row is their parent.
+    pub(crate) fn take_in(&self, start: usize, parents: &mut [u32], firsts: &[u32]) -> Intake
+        requires few { length self.now.lows.now ≤ 4294967295 }
+        requires within { self.now.row < length self.now.lows.now }
+        requires parents { length parents.old ≡ length self.now.lows.now }
+        requires firsts { length firsts.now ≡ length self.now.lows.now }
+        requires order { start ≤ self.now.row }
+        requires looks { Looks self.now.lows.now self.now.row start }
+        requires roots { (k : ℕ) → k < start → number_at parents.old k ≡ parent_by self.now.lows.now self.now.row k }
+        requires begun { (k : ℕ) → k < start → number_at firsts.now k ≡ first_of self.now.lows.now k }
+        ensures first { result.first ≡ first_of self.now.lows.now self.now.row }
+        ensures low { result.first ≤ start }
+        ensures count { result.count ≡ taken_by self.now.lows.now self.now.row start }
+        ensures taken { (k : ℕ) → k < start → number_at parents.new k ≡ parent_by self.now.lows.now (self.now.row + 1) k }
+        ensures kept { (k : ℕ) → start ≤ k → number_at parents.new k ≡ number_at parents.old k }
+    {
+        let mut top = start;
+        let mut count: u32 = 0;
+        while self.takes(top) {
+            parents[top - 1] = self.row as u32;
+            top = firsts[top - 1] as usize;
+            count += 1;
+        }
+        Intake { first: top, count }
+    }
+
+    /// Numbers the rows that the row has taken in, from the last one down.
+    pub(crate) fn number_taken(&self, intake: Intake, firsts: &[u32], places: &mut [u32])
+        requires few { length self.now.lows.now ≤ 4294967295 }
+        requires within { self.now.row < length self.now.lows.now }
+        requires places { length places.old ≡ length self.now.lows.now }
+        requires firsts { length firsts.now ≡ length self.now.lows.now }
+        requires first { intake.first ≡ first_of self.now.lows.now self.now.row }
+        requires count { intake.count ≡ taken_by self.now.lows.now self.now.row self.now.row }
+        requires begun { (k : ℕ) → k < self.now.row → number_at firsts.now k ≡ first_of self.now.lows.now k }
+        ensures placed { (k : ℕ) → k < self.now.row → number_at places.new k ≡ placed_by self.now.lows.now self.now.row k (number_at places.old k) }
+        ensures kept { (k : ℕ) → self.now.row ≤ k → number_at places.new k ≡ number_at places.old k }
+    {
+        let mut top = self.row;
+        let mut rank = intake.count;
+        while top > intake.first {
+            rank -= 1;
+            places[top - 1] = rank;
+            top = firsts[top - 1] as usize;
+        }
+    }
+
+    /// Numbers the children of the row again, if it has taken in some of the rows before `top`, since those in its stretch come behind
+    /// them.
+    pub(crate) fn number_again(
+        &self,
+        top: usize,
+        intake: Intake,
+        firsts: &[u32],
+        places: &mut [u32],
+    )
+        requires few { length self.now.lows.now ≤ 4294967295 }
+        requires within { self.now.row < length self.now.lows.now }
+        requires places { length places.old ≡ length self.now.lows.now }
+        requires firsts { length firsts.now ≡ length self.now.lows.now }
+        requires first { intake.first ≡ first_of self.now.lows.now self.now.row }
+        requires count { intake.count ≡ taken_by self.now.lows.now self.now.row self.now.row }
+        requires begun { (k : ℕ) → k < self.now.row → number_at firsts.now k ≡ first_of self.now.lows.now k }
+        requires right { top ≤ intake.first → (k : ℕ) → k < self.now.row → number_at places.old k ≡ placed_by self.now.lows.now self.now.row k (number_at places.old k) }
+        ensures placed { (k : ℕ) → k < self.now.row → number_at places.new k ≡ placed_by self.now.lows.now self.now.row k (number_at places.old k) }
+        ensures kept { (k : ℕ) → self.now.row ≤ k → number_at places.new k ≡ number_at places.old k }
+    {
+        if intake.first < top {
+            self.number_taken(intake, firsts, places);
+        }
     }
 }

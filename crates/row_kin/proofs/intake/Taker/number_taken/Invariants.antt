@@ -2,16 +2,16 @@
 use Rattle.std.proofs.Common.{◌≡◌, ℕ, ◌<◌, ◌≤◌}
 use Rattle.list_cuts.specs.Cuts.{number_at}
 use Rattle.row_kin.specs.Taken.{taken_by, placed_by, Looks}
-use Rattle.row_kin.proofs.intake.number_taken.Given as goal
+use Rattle.row_kin.proofs.intake.Taker.number_taken.Given as goal
 
 abbrev pub invariant-loop-top : goal.invariant-loop-top
 invariant-loop-top l = record {
-  low : l.top ≤ l.i;
-  looks : Looks l.lows l.i l.top;
-  counted : l.rank ≡ taken_by l.lows l.i l.top;
+  low : l.top ≤ l.self.row;
+  looks : Looks l.self.lows.now l.self.row l.top;
+  counted : l.rank ≡ taken_by l.self.lows.now l.self.row l.top;
   before : (k : ℕ) → k < l.top → number_at l.places k ≡ number_at l.fn.places k;
-  placed : (k : ℕ) → l.top ≤ k → k < l.i → number_at l.places k ≡ placed_by l.lows l.i k (number_at l.fn.places k);
-  kept : (k : ℕ) → l.i ≤ k → number_at l.places k ≡ number_at l.fn.places k;
+  placed : (k : ℕ) → l.top ≤ k → k < l.self.row → number_at l.places k ≡ placed_by l.self.lows.now l.self.row k (number_at l.fn.places k);
+  kept : (k : ℕ) → l.self.row ≤ k → number_at l.places k ≡ number_at l.fn.places k;
 }
 
 abbrev pub decreases-loop-top : goal.decreases-loop-top
