@@ -1,13 +1,10 @@
 // The strings that wait to come into the cells of symbols: what the places of a grammar force there.
 
-ghost use Rattle.std.specs.Prelude.{◌≡◌, ◌<◌, ◌++◌, ◌∷◌, [], true, false, ◌+◌, ℕ, List, length, take, get_or, IfOk, OnOk, MatchOption};
-ghost use Rattle.grammar_file.specs.declared.symbols.Symbol.{Symbol as AnySymbol};
+ghost use Rattle.std.specs.Prelude.{◌≡◌, ◌<◌, ◌++◌, [], true, false, ◌+◌, length, take, get_or, IfOk};
 ghost use Rattle.grammar_file.specs.declared.symbols.Symbol.TheVariants.{Terminal as AnyTerminal, Nonterminal as AnyNonterminal};
 ghost use Rattle.llp_tables.specs.Forced.{is_stop};
-ghost use Rattle.grammar_file.specs.Drive.{first_stack};
 ghost use Rattle.llp_tables.specs.Lookbacks.{cells_at};
 ghost use Rattle.llp_tables.specs.Slots.{covers};
-ghost use Rattle.llp_tables.specs.Tables.{stack_lt};
 ghost use Rattle.llp_wide.specs.Added.{Adds, SomeBelow};
 ghost use Rattle.llp_wide.specs.Claims.{IsStopAt, IsStopIn, IsStopBy, IsStopOf, IsFirstClaim, IsPassAt, IsPassOf};
 ghost use Rattle.llp_wide.specs.Queueing.{stack_cmp};

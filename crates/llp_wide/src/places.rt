@@ -1,7 +1,7 @@
 // The places of symbols in right sides, by the terminals that are matched last before them. Where what stands before a symbol has a
 // terminal, it doesn't matter what is matched last before the right side: such a place is there once for all, with an owner of any terminal.
 
-ghost use Rattle.std.specs.Prelude.{◌≡◌, ◌<◌, ◌+◌, ◌++◌, ◌∷◌, [], length, drop, IfOk};
+ghost use Rattle.std.specs.Prelude.{◌≡◌, ◌<◌, ◌+◌, length, IfOk};
 ghost use Rattle.llp_wide.specs.Added.{Adds};
 ghost use Rattle.llp_wide.specs.Places.{IsSpotAt, IsSpotOf, IsSpotIn, IsSpotBy, IsSpotUnder, IsGathering, IsSpotOn};
 

@@ -1,14 +1,13 @@
 // All places of a grammar's symbols: right sides are walked from the start on, by what is matched last before them.
 
-ghost use Rattle.std.specs.Prelude.{◌≡◌, ◌<◌, ◌+◌, ◌*◌, ℕ, ◌∷◌, ◌++◌, [], length, set, Some, slice_get, slice_index_or, IfOk, MatchOption};
+ghost use Rattle.std.specs.Prelude.{◌≡◌, ◌<◌, ◌+◌, ◌*◌, ℕ, ◌∷◌, ◌++◌, [], length, set, Some, slice_index_or, IfOk, MatchOption};
 ghost use Rattle.grammar_file.specs.declared.symbols.Symbol.TheVariants.{Nonterminal as AnyNonterminal};
 ghost use Rattle.grammar_file.specs.Grammar.{IsWellFormed};
 ghost use Rattle.grammar_file.specs.Marks.{AreMarksOf};
 ghost use Rattle.grammar_file.specs.Spelling.{IsReduced};
 ghost use Rattle.ll1_sets.specs.Predict.{IsNullable};
-ghost use Rattle.llp_wide.specs.Added.{IsIn, SomeBelow};
 ghost use Rattle.llp_wide.specs.Endings.{AreEndings};
-ghost use Rattle.llp_wide.specs.Places.{Spot, AreSpots};
+ghost use Rattle.llp_wide.specs.Places.{AreSpots};
 ghost use Rattle.llp_wide.specs.Surveys.{Finds, Opens, OpensIn, HaveRoom, place_of};
 ghost use Rattle.llp_wide.specs.declared.places.Entrance.{Entrance as AnyEntrance};
 

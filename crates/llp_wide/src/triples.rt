@@ -7,9 +7,9 @@ ghost use Rattle.grammar_file.specs.Marks.{AreMarksOf};
 ghost use Rattle.ll1_sets.specs.Width.{width_of};
 ghost use Rattle.ll1_sets.specs.Predict.{IsNullable};
 ghost use Rattle.llp_wide.specs.Places.{AreSpots};
-ghost use Rattle.llp_wide.specs.Triples.{AreLayers, AreTriples, AreTriplesUpTo};
+ghost use Rattle.llp_wide.specs.Triples.{AreLayers, AreTriplesUpTo};
 ghost use Rattle.llp_wide.specs.Wide.{IsWideLlp, IsLeastWideConflict};
-ghost use Rattle.llp_wide.specs.WideConflicts.{IsWideLlpOn, LeastWideBelow, TellWide};
+ghost use Rattle.llp_wide.specs.WideConflicts.{IsWideLlpOn, TellWide};
 ghost use Rattle.llp_wide.specs.WideEntries.{triple_place};
 
 use crate::closings::{Closing, Layer};

@@ -3,7 +3,6 @@
 ghost use Rattle.std.specs.Prelude.{◌≡◌, length, map, count_by, is_some, None, Some, MatchOption};
 ghost use Rattle.std.specs.List.{AllByRecursion};
 ghost use Rattle.grammar_file.specs.Grammar.{Grammar as AnyGrammar};
-ghost use Rattle.llp_tables.specs.Tables.{Entry as AnyEntry};
 ghost use Rattle.llp_wide.specs.WideLookbacks.{IsNumberOf, item_at};
 ghost use Rattle.llp_wide.specs.WideEntries.{AreWideTablesOf, CountsTriples, wide_entry_of};
 
