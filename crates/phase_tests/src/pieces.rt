@@ -1,5 +1,5 @@
 //! A worked program whose left parse is gone over by stretches, and the few pieces that each comes to.
-use row_pieces::{Piece, Tally, reduce_stretch, tally_stretch};
+use row_pieces::{Piece, Point, Tally, reduce_stretch, tally_stretch};
 use std::alloc::{AllocError, Global};
 use std::test::*;
 
@@ -123,12 +123,13 @@ const STRETCHES: &[Stretch] = &[
 // Whether a stretch is small, and has its pieces.
 fn has_pieces(
     alloc: Global,
-    (numbers, from, to, level, read, due): Stretch,
+    (numbers, place, to, level, read, due): Stretch,
 ) -> Result<bool, AllocError> {
-    if from > to || to > 1000 || level > 1000 || read > 1000 {
+    if place > to || to > 1000 || level > 1000 || read > 1000 {
         return Ok(false);
     }
-    let pieces = reduce_stretch(alloc, numbers, from, to, level, read)?;
+    let from = Point { place, level, read };
+    let pieces = reduce_stretch(alloc, numbers, from, to)?;
     Ok(are_pieces(&pieces, due))
 }
 

@@ -6,7 +6,7 @@ ghost use Rattle.tree_passes.specs.Stretches.{AreHanded, AreReduced, AreStarts, 
 use crate::starts::{Parse, Start};
 use list_cuts::stretch_start;
 use par_passes::Passes;
-use row_pieces::{Piece, Standing, reduce_stretch};
+use row_pieces::{Piece, Point, Standing, reduce_stretch};
 use std::alloc::{AllocError, Global};
 
 // What is left of the pieces of stretch number c.
@@ -22,16 +22,14 @@ fn reduce_by_number(
     requires inside { c < length parse.ends.now }
     ensures { IfOk result (λ v. v.items ≡ reduced (pieces_of_stretch parse.entry.numbers.now parse.entry.ends.now c)) }
 {
-    let from = stretch_start(parse.ends, c);
+    let place = stretch_start(parse.ends, c);
     let start = starts[c];
-    reduce_stretch(
-        alloc,
-        parse.numbers,
-        from,
-        parse.ends[c],
-        start.level,
-        start.read,
-    )
+    let from = Point {
+        place,
+        level: start.level,
+        read: start.read,
+    };
+    reduce_stretch(alloc, parse.numbers, from, parse.ends[c])
 }
 
 /// What is left of the pieces of so many stretches.

@@ -13,7 +13,7 @@ use crate::starts::{Parse, Start};
 use list_cuts::stretch_start;
 use par_passes::Passes;
 use row_columns::{Columns, Source, stretch_columns};
-use row_pieces::{Made, Standing, walk_stretch};
+use row_pieces::{Made, Point, Standing, walk_stretch};
 use std::alloc::{AllocError, Global};
 
 // The rows that stretch number c closes.
@@ -31,19 +31,16 @@ fn walk_by_number(
     requires inside { c < length parse.ends.now }
     ensures { IfOk result (λ v. v.items ≡ rows_of_stretch parse.entry.numbers.now parse.entry.ends.now c) }
 {
-    let from = stretch_start(parse.ends, c);
+    let place = stretch_start(parse.ends, c);
     let start = starts[c];
+    let from = Point {
+        place,
+        level: start.level,
+        read: start.read,
+    };
     let mut standing = handed[c].copy(alloc)?;
     let mut made = Vec::new(alloc);
-    walk_stretch(
-        parse.numbers,
-        from,
-        parse.ends[c],
-        start.level,
-        start.read,
-        &mut standing,
-        &mut made,
-    )?;
+    walk_stretch(parse.numbers, from, parse.ends[c], &mut standing, &mut made)?;
     if c + 1 == parse.ends.len() {
         standing.close_all(&mut made)?;
     }

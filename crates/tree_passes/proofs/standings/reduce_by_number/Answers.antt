@@ -37,5 +37,5 @@ returns c =
     let numbers = c.args.parse.numbers.now in
     let ends = c.args.parse.ends.now in
     let here : get_or c.args.starts.now c.args.c none ≡ start_of_stretch numbers ends c.args.c = value_at (start_of_stretch numbers ends) none (length c.args.starts.now) c.args.starts.now c.args.c c.requires.starts c.requires.begun in
-    let from : c.stretch_start-from.result ≡ start_of ends c.args.c = c.stretch_start-from.ensures in
+    let from : c.stretch_start-place.result ≡ start_of ends c.args.c = c.stretch_start-place.ensures in
     IfOk-weaker c.reduce_stretch.result _ _ (λ v h. h ∙ (λ i. reduced (pieces_in numbers (number_at ends c.args.c - from i) (from i) (here i).level (here i).read))) c.reduce_stretch.ensures

@@ -43,7 +43,7 @@ close_all-requires c =
     let b = c.requires.begun in
     let m = c.requires.handed.many in
     let here : get_or c.args.starts.now k none ≡ start_of_stretch numbers ends k = value_at (start_of_stretch numbers ends) none (length c.args.starts.now) c.args.starts.now k c.requires.starts (omega arith) in
-    let from : c.stretch_start-from.result ≡ start_of ends k = c.stretch_start-from.ensures in
+    let from : c.stretch_start-place.result ≡ start_of ends k = c.stretch_start-place.ensures in
     let s : Standing = c.in_ok-standing.standing in
     let known : IsHanded numbers ends k s = subst (IsHanded numbers ends k) (sym (c.in_ok-standing.ensures ∙ c.index-handed-c.is ∙ other_default c.args.handed.now k c.index-handed-c.result nowhere (omega arith))) (c.requires.handed.each k i) in
     walked_few numbers ends c.requires.cut k s c.walk_stretch.new.standing i known (c.in_ok-walk_stretch.ensures.stands ∙ (λ j. acts (pieces_in numbers (number_at ends k - from j) (from j) (here j).level (here j).read) s))
@@ -57,7 +57,7 @@ returns c =
     let b = c.requires.begun in
     let m = c.requires.handed.many in
     let here : get_or c.args.starts.now k none ≡ start_of_stretch numbers ends k = value_at (start_of_stretch numbers ends) none (length c.args.starts.now) c.args.starts.now k c.requires.starts (omega arith) in
-    let from : c.stretch_start-from.result ≡ start_of ends k = c.stretch_start-from.ensures in
+    let from : c.stretch_start-place.result ≡ start_of ends k = c.stretch_start-place.ensures in
     let s : Standing = c.in_ok-standing.standing in
     let known : IsHanded numbers ends k s = subst (IsHanded numbers ends k) (sym (c.in_ok-standing.ensures ∙ c.index-handed-c.is ∙ other_default c.args.handed.now k c.index-handed-c.result nowhere (omega arith))) (c.requires.handed.each k i) in
     let stands = c.in_ok-walk_stretch.ensures.stands ∙ (λ j. acts (pieces_in numbers (number_at ends k - from j) (from j) (here j).level (here j).read) s) in
