@@ -1,4 +1,3 @@
 pub mod Rounds
 pub mod Staying
 pub mod Folded
-pub mod Ties

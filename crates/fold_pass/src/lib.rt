@@ -6,7 +6,6 @@ mod columns;
 mod complete;
 mod constant;
 mod folded;
-mod kin;
 mod pass;
 mod rounds;
 mod staying;

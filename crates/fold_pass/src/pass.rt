@@ -10,19 +10,19 @@ ghost use Rattle.row_laws.specs.Climbed.{parents_by, place_at};
 ghost use Rattle.folding.specs.Folding.{folded_program};
 ghost use Rattle.folded_rows.specs.Columns.{AreConstants, columns_of, new_rows as rows_of, number_in};
 ghost use Rattle.folded_rows.specs.Levels.{AreLinked, program_levels};
+ghost use Rattle.kin_pass.specs.Kin.{AreKin};
 ghost use Rattle.fold_pass.specs.Folded.{AreNamesOf, AreNewColumns, AreNewNames, IsFolding};
 ghost use Rattle.fold_pass.specs.Rounds.{IsBounded, known_after};
 ghost use Rattle.fold_pass.specs.Staying.{AreStaying};
-ghost use Rattle.fold_pass.specs.Ties.{AreKin};
 
 use crate::columns::RowColumns;
 use crate::complete::folding_rows;
 use crate::folded::{kinds, lows, meant, numbers, rank, tokens};
-use crate::kin::kin;
 use crate::rounds::constants;
 use crate::staying::{Staying, rows_that_stay};
 use ast_rows::{Names, Rows};
 use folded_rows::{folded_names_are, folded_rows_are, nothing_folds, rows_have_levels};
+use kin_pass::kin;
 use par_passes::Passes;
 use row_kin::Kin;
 use row_rules::{shaped_is_named, sites_are_rows};
@@ -30,6 +30,9 @@ use scan_lookback::Steps;
 use source_meaning::Kind;
 use std::alloc::AllocError;
 use std::sync::ledger::Ledger;
+
+// So many stretches of the rows that stay for each worker, since some take longer than others.
+const SHARES: u32 = 2;
 
 // The columns of the rows that stay: kinds, own tokens and the first rows of subtrees.
 #[derive(Drop)]
@@ -94,7 +97,7 @@ fn new_rows(
     ensures { IfOk result (λ v. v ≡ rows_of columns.now values.now) }
 {
     let columns = new_columns(crew, columns, values, staying)?;
-    let kin = kin(crew, columns.lows.as_slice())?;
+    let kin = kin(crew, columns.lows.as_slice(), SHARES)?;
     Ok(lay(columns, kin))
 }
 
