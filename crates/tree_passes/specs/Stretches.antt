@@ -13,6 +13,7 @@ use Rattle.row_pieces.specs.declared.piece.Piece.{Piece}
 use Rattle.row_pieces.specs.declared.piece.Piece.TheVariants.{Cut}
 use Rattle.row_pieces.specs.declared.tally.Tally.{Tally}
 use Rattle.row_columns.specs.Numbers.{IsParseOf}
+use Rattle.row_columns.specs.RowFaults.{least_in}
 use Rattle.row_columns.specs.Stretches.{AreStretch}
 use Rattle.tree_passes.specs.declared.starts.Start.{Start}
 
@@ -95,3 +96,7 @@ abbrev pub AreColumnsOf : (text numbers ends : List ℕ) → ℕ → List Kind �
 AreColumnsOf text numbers ends c kinds lows tokens =
     (r : Tree Prog) → IsParseOf text numbers r
     → AreStretch (left_parse r) (leaves r) (standing_before numbers ends c).count (standing_before numbers ends c).last (rows_of_stretch numbers ends c) kinds lows tokens
+
+-- the least keys of the faults of the stretches of rows that end at these places, in order
+abbrev pub AreKeys : List Kind → (lows tokens ends : List ℕ) → List ℕ → Type 0
+AreKeys kinds lows tokens ends keys = keys ≡ map (λ c. least_in kinds lows tokens (start_of ends c) (number_at ends c)) (range_with_len 0 (length ends))

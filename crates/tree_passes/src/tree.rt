@@ -11,29 +11,25 @@ ghost use Rattle.ast_rows.specs.TokenRows.{row_of};
 ghost use Rattle.row_laws.specs.Marks.{Mark};
 ghost use Rattle.row_laws.specs.Climbed.{row_by_lists};
 ghost use Rattle.row_walk.specs.Walk.{made_by};
-ghost use Rattle.list_cuts.specs.Cuts.{AreCuts};
 ghost use Rattle.row_pieces.specs.Pieces.{no_row};
 ghost use Rattle.row_columns.specs.TokensOf.{AreTokensOf};
-ghost use Rattle.row_columns.specs.RowFaults.{least_in};
 ghost use Rattle.row_columns.specs.Stretches.{AreRowColumns, AreSmall, AreStretch, tree_marks};
-ghost use Rattle.row_kin.specs.Alone.{ties_by_stretches};
 ghost use Rattle.tree_passes.specs.Columns.{numbers_of};
-ghost use Rattle.tree_passes.specs.Kin.{AreTies};
 ghost use Rattle.tree_passes.specs.Stretches.{IsCut};
 ghost use Rattle.tree_passes.specs.TreeColumns.{IsParseOf};
 
-use crate::cuts::stretch_ends;
-use crate::kin::{Found, find_all, join_found};
+use crate::SHARES;
+use crate::faults::least_key;
 use crate::laid::lay;
 use crate::owned::owned_all;
 use crate::standings::{hand_out, reduce_all};
 use crate::starts::{Parse, add_up, tally_all};
 use crate::walked::{columns_all, join_columns};
 use ast_rows::{Rows, Tokens};
+use kin_pass::{kin, stretch_ends};
 use par_passes::Passes;
-use phase_faults::PhaseFault;
+use phase_faults::{FaultKey, PhaseFault};
 use row_columns::{Columns, Source, add_program, stretches_are_rows, stretches_tell_faults};
-use row_kin::{Kin, kin_settled};
 use row_walk::walks_give_rows;
 use std::alloc::AllocError;
 
@@ -83,59 +79,43 @@ fn tree_columns(
         owned: owned.as_slice(),
         numbers,
     };
-    let ends = stretch_ends(crew, numbers.len())?;
+    let ends = stretch_ends(crew, numbers.len(), SHARES)?;
     let columns = walk_columns(crew, &source, ends.as_slice())?;
     add_program(columns)
 }
 
-// The kin of the rows, by stretches that end at these places, and the least key of their faults.
-fn find(crew: &impl Passes, columns: &Columns, ends: &[usize]) -> Result<Found, AllocError>
-    requires few { length columns.now.kinds.items ≤ 4294967295 }
-    requires lows { length columns.now.lows.items ≡ length columns.now.kinds.items }
-    requires cuts { AreCuts ends.now (length columns.now.kinds.items) }
-    requires count { length ends.now < 2 ^ 62 }
-    ensures ties { IfOk result (λ v. AreTies (ties_by_stretches columns.now.lows.items ends.now) v.kin.parents.items v.kin.lows.items v.kin.places.items v.kin.counts.items) }
-    ensures least { IfOk result (λ v. v.least ≡ least_in columns.now.kinds.items columns.now.lows.items columns.now.tokens.items 0 (length columns.now.kinds.items)) }
-{
-    let parts = find_all(crew, columns, ends)?;
-    join_found(crew.alloc(), columns, ends, parts)
-}
-
-// The rows of these columns, from what their stretches know of the kin.
-fn lay_rows(columns: Columns, ends: &[usize], kin: Kin) -> Rows
+// The rows of these columns.
+fn lay_rows(crew: &impl Passes, columns: Columns) -> Result<Rows, AllocError>
     requires few { length columns.kinds.items ≤ 4294967295 }
     requires lows { length columns.lows.items ≡ length columns.kinds.items }
     requires tokens { length columns.tokens.items ≡ length columns.kinds.items }
-    requires cuts { AreCuts ends.now (length columns.kinds.items) }
-    requires ties { AreTies (ties_by_stretches columns.lows.items ends.now) kin.parents.items kin.lows.items kin.places.items kin.counts.items }
-    ensures { (ms : List Mark) → AreRowColumns ms columns.kinds.items columns.lows.items columns.tokens.items → AreSmall ms → result ≡ map (row_by_lists ms) (numbers_of ms) }
+    ensures { IfOk result (λ v. (ms : List Mark) → AreRowColumns ms columns.kinds.items columns.lows.items columns.tokens.items → AreSmall ms
+        → v ≡ map (row_by_lists ms) (numbers_of ms)) }
 {
-    let kin = kin_settled(columns.lows.as_slice(), ends, kin);
-    lay(
+    let kin = kin(crew, columns.lows.as_slice(), SHARES)?;
+    Ok(lay(
         columns.kinds,
         kin.parents,
         columns.tokens,
         kin.places,
         kin.lows,
         kin.counts,
-    )
+    ))
 }
 
 // The rows, or the fault that the least key tells.
-fn answer(columns: Columns, ends: &[usize], found: Found) -> Result<Rows, PhaseFault>
+fn answer(crew: &impl Passes, columns: Columns, least: FaultKey) -> Result<Rows, PhaseFault>
     requires few { length columns.kinds.items ≤ 4294967295 }
     requires lows { length columns.lows.items ≡ length columns.kinds.items }
     requires tokens { length columns.tokens.items ≡ length columns.kinds.items }
-    requires cuts { AreCuts ends.now (length columns.kinds.items) }
-    requires ties { AreTies (ties_by_stretches columns.lows.items ends.now) found.kin.parents.items found.kin.lows.items found.kin.places.items found.kin.counts.items }
     ensures ok { IfOk result (λ v. (r : Tree Prog) → AreRowColumns (tree_marks r) columns.kinds.items columns.lows.items columns.tokens.items
-        → AreSmall (tree_marks r) → IsLeastKey (shape_faults (ast r)) found.least → (shape_faults (ast r) ≡ [])
+        → AreSmall (tree_marks r) → IsLeastKey (shape_faults (ast r)) least → (shape_faults (ast r) ≡ [])
         × (v ≡ map (row_by_lists (tree_marks r)) (numbers_of (tree_marks r)))) }
-    ensures fault { (code at : ℕ) → result ≡ Err (Told code at) → (r : Tree Prog) → IsLeastKey (shape_faults (ast r)) found.least
+    ensures fault { (code at : ℕ) → result ≡ Err (Told code at) → (r : Tree Prog) → IsLeastKey (shape_faults (ast r)) least
         → earliest (shape_faults (ast r)) ≡ Some (record { at = at; code = code }) }
 {
-    match found.least.fault() {
-        None => Ok(lay_rows(columns, ends, found.kin)),
+    match least.fault() {
+        None => Ok(lay_rows(crew, columns)?),
         Some(fault) => Err(fault),
     }
 }
@@ -161,7 +141,6 @@ pub fn rows(
     stretches_tell_faults();
     let crew = &crew.for_items(parse.len());
     let columns = tree_columns(crew, text, tokens, parse)?;
-    let ends = stretch_ends(crew, columns.kinds.len())?;
-    let found = find(crew, &columns, ends.as_slice())?;
-    answer(columns, ends.as_slice(), found)
+    let least = least_key(crew, &columns)?;
+    answer(crew, columns, least)
 }

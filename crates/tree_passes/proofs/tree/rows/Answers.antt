@@ -10,29 +10,29 @@ use Rattle.tree_passes.proofs.TreeTokens.{numbers_fit}
 use Rattle.tree_passes.proofs.TreeRows.{rows_few}
 use Rattle.tree_passes.proofs.tree.rows.Goals as goal
 
-pub find-requires-clause-few : goal.find-requires-clause-few
-find-requires-clause-few g c κs within =
+pub least_key-requires-clause-few : goal.least_key-requires-clause-few
+least_key-requires-clause-few g c κs within =
     let r = c.requires.parsed.0 in
     let is = c.requires.parsed.1 in
     let known = c.in_ok-columns.ensures r is in
     rows_few r c.args.text.now c.args.parse.now is c.requires.small c.in_ok-columns.columns.kinds.items c.in_ok-columns.columns.lows.items c.in_ok-columns.columns.tokens.items known
 
-pub find-requires-clause-lows : goal.find-requires-clause-lows
-find-requires-clause-lows g c κs within =
+pub least_key-requires-clause-lows : goal.least_key-requires-clause-lows
+least_key-requires-clause-lows g c κs within =
     let r = c.requires.parsed.0 in
     let is = c.requires.parsed.1 in
     let known = c.in_ok-columns.ensures r is in
     lows_as_many (tree_marks r) c.in_ok-columns.columns.kinds.items c.in_ok-columns.columns.lows.items c.in_ok-columns.columns.tokens.items known
 
 pub answer-requires-clause-few : goal.answer-requires-clause-few
-answer-requires-clause-few g c =
+answer-requires-clause-few g c κs within =
     let r = c.requires.parsed.0 in
     let is = c.requires.parsed.1 in
     let known = c.in_ok-columns.ensures r is in
     rows_few r c.args.text.now c.args.parse.now is c.requires.small c.in_ok-columns.columns.kinds.items c.in_ok-columns.columns.lows.items c.in_ok-columns.columns.tokens.items known
 
 pub answer-requires-clause-lows : goal.answer-requires-clause-lows
-answer-requires-clause-lows g c =
+answer-requires-clause-lows g c κs within =
     let r = c.requires.parsed.0 in
     let is = c.requires.parsed.1 in
     let known = c.in_ok-columns.ensures r is in
@@ -43,7 +43,7 @@ returns-clause-ok g c = if_ok c.answer.result c.answer.ensures.ok (λ v h r is.
     let known = c.in_ok-columns.ensures r is in
     let small = c.stretches_are_rows.ensures.small r c.args.text.now is.0 c.requires.lexical c.requires.small in
     let tells = c.walks_give_rows.ensures.faults r no_token (numbers_fit (tree_marks r) small) in
-    let least = c.in_ok-found.ensures.least ∙ c.stretches_tell_faults.ensures.whole (tree_marks r) c.in_ok-columns.columns.kinds.items c.in_ok-columns.columns.lows.items c.in_ok-columns.columns.tokens.items (c.stretches_are_rows.ensures.fit no_token (left_parse r) (leaves r)) small known in
+    let least = c.in_ok-least.ensures ∙ c.stretches_tell_faults.ensures.whole (tree_marks r) c.in_ok-columns.columns.kinds.items c.in_ok-columns.columns.lows.items c.in_ok-columns.columns.tokens.items (c.stretches_are_rows.ensures.fit no_token (left_parse r) (leaves r)) small known in
     let a = h r known small (subst (IsLeastKey (shape_faults (ast r))) (sym least) tells) in
     (a.0, a.1 ∙ sym (c.walks_give_rows.ensures.rows r no_token)))
 
@@ -52,5 +52,5 @@ returns-clause-fault g c = λ code at e r is.
     let known = c.in_ok-columns.ensures r is in
     let small = c.stretches_are_rows.ensures.small r c.args.text.now is.0 c.requires.lexical c.requires.small in
     let tells = c.walks_give_rows.ensures.faults r no_token (numbers_fit (tree_marks r) small) in
-    let least = c.in_ok-found.ensures.least ∙ c.stretches_tell_faults.ensures.whole (tree_marks r) c.in_ok-columns.columns.kinds.items c.in_ok-columns.columns.lows.items c.in_ok-columns.columns.tokens.items (c.stretches_are_rows.ensures.fit no_token (left_parse r) (leaves r)) small known in
+    let least = c.in_ok-least.ensures ∙ c.stretches_tell_faults.ensures.whole (tree_marks r) c.in_ok-columns.columns.kinds.items c.in_ok-columns.columns.lows.items c.in_ok-columns.columns.tokens.items (c.stretches_are_rows.ensures.fit no_token (left_parse r) (leaves r)) small known in
     c.answer.ensures.fault code at e r (subst (IsLeastKey (shape_faults (ast r))) (sym least) tells)
