@@ -1,5 +1,5 @@
 -- The stack behind the regions of the segments: an access to its bytes is its own, and any other one is theirs.
-use Rattle.std.proofs.Common.{◌≡◌, ℕ, zero, suc, ◌+◌, ◌-◌, ◌<◌, ◌≤◌, List, [], ◌∷◌, ◌++◌, length, take, drop, get_or, Bool, true, false, cond, Option, Some, None, refl, sym, ap, subst, ◌∙◌, arith, length-append, ⊎_elim}
+use Rattle.std.proofs.Common.{◌≡◌, ℕ, suc, ◌+◌, ◌-◌, ◌<◌, List, [], ◌∷◌, ◌++◌, length, take, drop, get_or, Bool, true, false, cond, Option, Some, None, refl, sym, ap, subst, ◌∙◌, arith, length-append, ⊎_elim}
 use Rattle.std.proofs.lemmas.List.{get_or_append_left, map-append}
 use Rattle.std.proofs.Math.Seq.{get_or-append_seam}
 use Rattle.std.specs.Prelude.{◌&&◌, MatchOption, option_map}
@@ -11,7 +11,7 @@ use Rattle.rv32_emul.specs.Machine.{stack_of}
 use Rattle.rv32_emul.specs.Stretches.{stretch_of, stretches, AreApart}
 use Rattle.rv32_emul.specs.Fixed.{fixed}
 use Rattle.rv32_emul.specs.Kept.{Kept, AreCode}
-use Rattle.rv32_emul.proofs.Apart.{only, and_left}
+use Rattle.rv32_emul.proofs.Apart.{only}
 
 -- the regions of the segments, and the stack of these bytes
 abbrev pub whole : List Region → List ℕ → List Region
