@@ -440,8 +440,8 @@ fn two_workers_meet_at_rows(rt: HostRuntime) -> Result<(), Fail> {
         Ok(found) => assert!(rt; found.parents() == LEFT.2),
         Err(_) => assert!(rt; false),
     }
-    // the tokens of rows, and four passes over stretches
-    assert_eq!(rt; gate.counts(), (5, 0));
+    // the tokens of rows, three passes over stretches of the parse, and two over stretches of the rows: faults and kin
+    assert_eq!(rt; gate.counts(), (6, 0));
     Ok(())
 }
 

@@ -101,7 +101,7 @@ fn passes_of_build<R: Threads + Abort + Sync>(rt: &R, alloc: Global) -> Result<P
 
 // The passes of each phase of the front over a function that returns a number: of tokens, parse, rows, names (of which one is over the only
 // declaration) and types.
-const PHASES: [Passed; 5] = [(6, 0), (3, 0), (5, 0), (5, 1), (4, 0)];
+const PHASES: [Passed; 5] = [(6, 0), (3, 0), (6, 0), (5, 1), (4, 0)];
 
 // Those of depths, frames, columns, sizes, places and words. Three are over the only function, and no block of the rows is whole, so there is none over
 // blocks.
