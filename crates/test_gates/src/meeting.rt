@@ -15,7 +15,7 @@ pub struct Meeting {
     alone: AtomicU64,
 }
 
-const TURNS: u64 = 1 << 26;
+const TURNS: u64 = 1 << 28;
 
 impl Meeting {
     /// Nobody has come yet.
