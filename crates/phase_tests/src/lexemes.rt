@@ -86,6 +86,33 @@ const CLASSES: [Lexeme; 15] = [
     (Terminal::Ident, 33, 3),
 ];
 
+// Stretches may end in comments, in numbers and in marks of two bytes.
+const CUT_ANYWHERE: [Lexeme; 7] = [
+    (Terminal::Digits, 0, 1),
+    (Terminal::Digits, 7, 5),
+    (Terminal::Cmp, 12, 2),
+    (Terminal::Digits, 14, 2),
+    (Terminal::Digits, 20, 1),
+    (Terminal::Cmp, 21, 2),
+    (Terminal::Digits, 23, 1),
+];
+
+// Without a line end no state is known before the states before the stretches are.
+const NO_LINE_END: [Lexeme; 9] = [
+    (Terminal::Ident, 0, 1),
+    (Terminal::Cmp, 1, 2),
+    (Terminal::Digits, 3, 1),
+    (Terminal::AmpAmp, 4, 2),
+    (Terminal::Ident, 6, 1),
+    (Terminal::Cmp, 7, 2),
+    (Terminal::Digits, 9, 2),
+    (Terminal::BarBar, 11, 2),
+    (Terminal::Ident, 13, 1),
+];
+
+// A comment over three chunks and more.
+const LONG_COMMENT: [Lexeme; 2] = [(Terminal::Ident, 0, 1), (Terminal::Ident, 24, 1)];
+
 // A comment and a name over three chunks and more, and what stands behind them in the last one.
 const LONG_PIECES: [Lexeme; 3] = [
     (Terminal::Ident, 0, 1),
@@ -105,7 +132,7 @@ const PRINTS: [Lexeme; 6] = [
 const SEVEN: [Lexeme; 1] = [(Terminal::Digits, 0, 1)];
 
 // Texts and their tokens.
-const TEXTS: [(&[u8], &[Lexeme]); 9] = [
+const TEXTS: [(&[u8], &[Lexeme]); 12] = [
     (b"fn main(): int { return 7; } // end", &FUNCTION),
     (b"1<=2 == true", &COMPARED),
     (b"", &[]),
@@ -115,14 +142,22 @@ const TEXTS: [(&[u8], &[Lexeme]); 9] = [
     (b"a // one two three\nfour_and_five 6", &LONG_PIECES),
     (EVERY_CLASS, &CLASSES),
     (b"print -6; print6 prin", &PRINTS),
+    (b"7 // x\n12345==67//y\n8==9", &CUT_ANYWHERE),
+    (b"a==1&&b!=22||c", &NO_LINE_END),
+    (b"a//////////////////// b\nc", &LONG_COMMENT),
 ];
 
 // Texts, and the codes and places of their diagnostics.
-const FAULTS: [(&[u8], u16, u32); 4] = [
+const FAULTS: [(&[u8], u16, u32); 8] = [
     (b"2147483648 $", 102, 0),
     (b"$ 2147483648", 101, 0),
     (b"7 0002147483648", 102, 2),
     (b"7\x00\x80", 101, 1),
+    // a comment's is none; then each of those behind the first stands before a line end in one plan and behind one in another
+    (b"a // $\n $ 2147483648\n$", 101, 8),
+    (b"x\n2147483648 $\n$", 102, 2),
+    (b"aaaa$bbb\n$", 101, 4),
+    (b"12 == 3\n\n2147483648", 102, 9),
 ];
 
 fn texts<R: Threads + Abort + Sync>(rt: &R, alloc: Global, plan: (u32, u32)) -> Result<(), Fail> {
@@ -158,6 +193,13 @@ fn copies(alloc: Global, byte: u8) -> Result<Vec<u8>, AllocError>
     ensures { IfOk result (λ v. length v.items ≡ 1048576) }
 {
     vec![in alloc; byte; 1_048_576]
+}
+
+// A minus sign again and again.
+fn signs(alloc: Global) -> Result<Vec<u8>, AllocError>
+    ensures { IfOk result (λ v. length v.items ≡ 8192) }
+{
+    vec![in alloc; b'-'; 8192]
 }
 
 // Pieces of a megabyte, from one byte again and again.
@@ -196,8 +238,25 @@ fn two_workers_meet_in_every_pass(rt: HostRuntime) -> Result<(), Fail> {
     let crew = at(&rt, rt.alloc(), (2, 1), &gate)?;
     let expected = [(Terminal::Ident, 0, 1), (Terminal::Ident, 2, 1)];
     assert!(rt; has_tokens(&crew, b"a b", &expected));
-    // the chunks' functions, their pieces, the faulty ones, and the tokens' three columns
-    assert_eq!(rt; gate.counts(), (6, 0));
+    // what the stretches tell by themselves; one worker alone tells their fronts, which are few bytes
+    assert_eq!(rt; gate.counts(), (1, 1));
+    Ok(())
+}
+
+// Without a line end the fronts are all of the text.
+#[test]
+fn two_workers_meet_at_long_fronts(rt: HostRuntime) -> Result<(), Fail> {
+    let gate = Meeting::new();
+    let crew = at(&rt, rt.alloc(), (2, 1), &gate)?;
+    let text = signs(rt.alloc())?;
+    let Ok(tokens) = lex(&crew, &text) else {
+        return Err("refused".into());
+    };
+    assert_eq!(rt; tokens.len(), 8192);
+    for (place, start) in tokens.starts().iter().enumerate() {
+        assert!(rt; place == *start as usize);
+    }
+    assert_eq!(rt; gate.counts(), (2, 0));
     Ok(())
 }
 
