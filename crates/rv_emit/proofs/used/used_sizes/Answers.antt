@@ -8,7 +8,7 @@ use Rattle.word_monoid.specs.Instances.{count}
 use Rattle.rv_code.specs.Code.{Short, Long, most_short}
 use Rattle.rv_select.specs.Columns.{ProgramColumns, size_in}
 use Rattle.rv_select.specs.Layout.{rows, sums, head_size, words_many}
-use Rattle.rv_emit.proofs.used.used_layout.Goals as goal
+use Rattle.rv_emit.proofs.used.used_sizes.Goals as goal
 
 -- the words of the head and of all rows
 counted : (c : ProgramColumns) (sizes : List ℕ) (head all : ℕ) → sizes ≡ map (size_in c Short) (rows c) → head ≡ head_size Short c → all ≡ get_or (prefixes count sizes) (length sizes) 0 → head + all ≡ words_many Short c
@@ -24,15 +24,15 @@ total-requires g c =
     let few = c.requires.rows in
     record { len = subst (λ (xs : List ℕ). length xs ≤ most_rows) (sym (c.deref.ensures.value ∙ c.in_ok-sizes.ensures)) (omega arith) }
 
-pub returns-then-words-gt-MOST_SHORT : goal.returns-then-words-gt-MOST_SHORT
-returns-then-words-gt-MOST_SHORT g c =
+pub returns-in_ok-row_sizes-clause-layout : goal.returns-in_ok-row_sizes-clause-layout
+returns-in_ok-row_sizes-clause-layout g c =
     let columns = c.args.columns.now in
     let words = counted columns c.deref.result.now c.head_size.result c.total.result (c.deref.ensures.value ∙ c.in_ok-sizes.ensures) c.head_size.ensures.value c.total.ensures.value in
     let long = c.if-words-gt-MOST_SHORT.true in
     ap (λ b. if b then Long else Short) (sym (lt-ltb most_short (words_many Short columns) (omega (arith, words, long))))
 
-pub returns : goal.returns
-returns g c =
+pub returns-else-words-gt-MOST_SHORT-clause-layout : goal.returns-else-words-gt-MOST_SHORT-clause-layout
+returns-else-words-gt-MOST_SHORT-clause-layout g c =
     let columns = c.args.columns.now in
     let words = counted columns c.deref.result.now c.head_size.result c.total.result (c.deref.ensures.value ∙ c.in_ok-sizes.ensures) c.head_size.ensures.value c.total.ensures.value in
     let short = c.if-words-gt-MOST_SHORT.false in
