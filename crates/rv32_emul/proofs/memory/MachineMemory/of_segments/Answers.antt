@@ -11,5 +11,5 @@ of_segments-requires c = segments-apart (map region_of c.args.segments.items) em
 
 pub invariant_of-result : goal.invariant_of-result
 invariant_of-result c =
-    let same : whole c.in_ok-segments.segments c.in_ok-stack.stack.items ≡ whole (map region_of c.args.segments.items) empty_stack = λ i. whole (c.in_ok-segments.ensures i) (c.in_ok-stack.ensures i) in
+    let same : whole c.in_ok-segments.segments.value c.in_ok-stack.stack.items ≡ whole (map region_of c.args.segments.items) empty_stack = λ i. whole ((c.in_ok-segments.ensures.ok ∙ c.in_ok-regions.ensures) i) (c.in_ok-stack.ensures i) in
     (subst (λ (rs : List Region). AreApart (stretches rs)) (sym same) c.requires, ap (λ (bytes : List ℕ). length bytes) c.in_ok-stack.ensures ∙ stack_long)

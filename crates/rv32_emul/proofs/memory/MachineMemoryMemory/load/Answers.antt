@@ -7,7 +7,7 @@ use Rattle.rv32_emul.proofs.memory.MachineMemoryMemory.load.Goals as goal
 
 pub returns-in-Some-clause-loaded : goal.returns-in-Some-clause-loaded
 returns-in-Some-clause-loaded c =
-    let xs : List Region = c.self.inside.segments in
+    let xs : List Region = c.self.inside.segments.value in
     let stack : List ℕ = c.self.inside.stack.items in
     let a : ℕ = c.args.address in
     let n : ℕ = c.args.size in
@@ -18,7 +18,7 @@ returns-in-Some-clause-loaded c =
 
 pub returns-in-None-clause-loaded : goal.returns-in-None-clause-loaded
 returns-in-None-clause-loaded c =
-    let xs : List Region = c.self.inside.segments in
+    let xs : List Region = c.self.inside.segments.value in
     let stack : List ℕ = c.self.inside.stack.items in
     let away : has (stack_of stack) c.args.address c.args.size ≡ false = c.in-None.ensures.holds stack c.self.invariant.1 in
-    c.number.ensures.number ∙ (sym (segments-loaded xs stack c.args.address c.args.size away) ∙ ap (λ (rs : List Region). loaded rs c.args.address c.args.size) c.self.view_is)
+    c.number.ensures.number ∙ (ap (λ (rs : List Region). loaded rs c.args.address c.args.size) c.deref-in-None.ensures ∙ (sym (segments-loaded xs stack c.args.address c.args.size away) ∙ ap (λ (rs : List Region). loaded rs c.args.address c.args.size) c.self.view_is))

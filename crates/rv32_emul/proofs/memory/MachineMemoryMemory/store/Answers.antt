@@ -3,14 +3,14 @@ use Rattle.std.specs.Prelude.{MatchOption}
 use Rattle.rv_isa.specs.Memory.{Region, has, stored, overwritten, bytes_of}
 use Rattle.elf_file.specs.Load.{stack_start}
 use Rattle.rv32_emul.specs.Machine.{stack_of}
-use Rattle.rv32_emul.specs.Stretches.{AreApart}
+use Rattle.rv32_emul.specs.Stretches.{stretches, AreApart}
 use Rattle.rv32_emul.proofs.Apart.{written-long}
 use Rattle.rv32_emul.proofs.Beside.{whole, stack-stored, segments-stored, stretches-stay, some-bytes}
 use Rattle.rv32_emul.proofs.memory.MachineMemoryMemory.store.Goals as goal
 
 pub invariant_of-self : goal.invariant_of-self
 invariant_of-self c =
-    let xs : List Region = c.self.inside.segments in
+    let xs : List Region = c.self.inside.segments.value in
     let stack : List ℕ = c.self.inside.stack.items in
     let new : List ℕ = c.put_in.new.stack.items in
     let here : has (stack_of stack) c.args.address c.args.size ≡ true = c.in-Some.ensures.holds stack c.self.invariant.1 in
@@ -20,7 +20,7 @@ invariant_of-self c =
 
 pub returns-in-Some-clause-denied : goal.returns-in-Some-clause-denied
 returns-in-Some-clause-denied c =
-    let xs : List Region = c.self.inside.segments in
+    let xs : List Region = c.self.inside.segments.value in
     let stack : List ℕ = c.self.inside.stack.items in
     let new : List ℕ = c.put_in.new.stack.items in
     let here : has (stack_of stack) c.args.address c.args.size ≡ true = c.in-Some.ensures.holds stack c.self.invariant.1 in
@@ -31,12 +31,13 @@ returns-in-Some-clause-denied c =
 pub invariant_of-self-2 : goal.invariant_of-self-2
 invariant_of-self-2 c =
     let stack : List ℕ = c.self.inside.stack.items in
-    (subst (λ (ss : List (ℕ × ℕ)). AreApart ss) (sym (stretches-stay c.self.inside.segments c.put.new.self stack stack c.put.ensures.stretches refl)) c.self.invariant.0, c.self.invariant.1)
+    (subst (λ (ss : List (ℕ × ℕ)). AreApart ss) (sym (stretches-stay c.self.inside.segments.value c.put.new.self stack stack (c.put.ensures.stretches ∙ ap (λ (rs : List Region). stretches rs) c.deref_mut.ensures.value) refl)) c.self.invariant.0, c.self.invariant.1)
 
 pub returns-clause-denied : goal.returns-clause-denied
 returns-clause-denied c =
-    let xs : List Region = c.self.inside.segments in
+    let xs : List Region = c.self.inside.segments.value in
     let stack : List ℕ = c.self.inside.stack.items in
     let away : has (stack_of stack) c.args.address c.args.size ≡ false = c.in_default.ensures.holds stack c.self.invariant.1 in
     subst (λ (rs : List Region). MatchOption c.put.result (stored rs c.args.address c.args.size c.args.value ≡ None) (λ _. stored rs c.args.address c.args.size c.args.value ≡ Some (whole c.put.new.self stack))) c.self.view_is
-    (segments-stored c.put.result xs c.put.new.self stack c.args.address c.args.size c.args.value away c.put.ensures.stored)
+    (segments-stored c.put.result xs c.put.new.self stack c.args.address c.args.size c.args.value away
+    (subst (λ (rs : List Region). MatchOption c.put.result (stored rs c.args.address c.args.size c.args.value ≡ None) (λ _. stored rs c.args.address c.args.size c.args.value ≡ Some c.put.new.self)) c.deref_mut.ensures.value c.put.ensures.stored))

@@ -2,7 +2,7 @@ use Rattle.std.proofs.Common.{◌≡◌, ◌≤◌, ◌-◌, ◌%◌}
 use Rattle.rv_isa.specs.Effect.{state}
 use Rattle.rv32_emul.specs.Fixed.{fixed}
 use Rattle.rv32_emul.specs.Quiet.{IsQuiet}
-use Rattle.rv32_emul.proofs.machine.run_code.Given as goal
+use Rattle.rv32_emul.proofs.machine.run_owned.Given as goal
 
 abbrev pub invariant-loop-left : goal.invariant-loop-left
 invariant-loop-left l = record {

@@ -9,13 +9,13 @@ use Rattle.rv32_emul.specs.Kept.{IsCode}
 use Rattle.rv32_emul.proofs.Codes.{code-at}
 use Rattle.rv32_emul.proofs.Taken.{kept-step, kept-prints, taken-more, continues-quiet, continues-last}
 use Rattle.rv32_emul.proofs.Unchanged.{effect-fixed}
-use Rattle.rv32_emul.proofs.machine.run_code.Goals as goal
+use Rattle.rv32_emul.proofs.machine.run_owned.Goals as goal
 
 pub returns-then-pc-base-clause-took : goal.returns-then-pc-base-clause-took
-returns-then-pc-base-clause-took c = continues-quiet Went c.args.steps c.loop-left.left (state c.args.start c.args.memory.now) (state c.loop-left.hart c.loop-left.memory) refl c.loop-left.invariant.fits c.loop-left.invariant.so_far
+returns-then-pc-base-clause-took c = continues-quiet Went c.args.steps c.loop-left.left (state c.args.start c.args.memory) (state c.loop-left.hart c.loop-left.memory) refl c.loop-left.invariant.fits c.loop-left.invariant.so_far
 
 pub returns-then-index-code-clause-took : goal.returns-then-index-code-clause-took
-returns-then-index-code-clause-took c = continues-quiet Went c.args.steps c.loop-left.left (state c.args.start c.args.memory.now) (state c.loop-left.hart c.loop-left.memory) refl c.loop-left.invariant.fits c.loop-left.invariant.so_far
+returns-then-index-code-clause-took c = continues-quiet Went c.args.steps c.loop-left.left (state c.args.start c.args.memory) (state c.loop-left.hart c.loop-left.memory) refl c.loop-left.invariant.fits c.loop-left.invariant.so_far
 
 pub loop-left-preserved : goal.loop-left-preserved
 loop-left-preserved c =
@@ -33,7 +33,7 @@ loop-left-preserved c =
     record {
       aligned = c.execute.ensures.aligned;
       fits = omega (arith, c.loop-left-test.true, c.loop-left.invariant.fits);
-      so_far = taken-more c.args.steps c.loop-left.left (state c.args.start c.args.memory.now) here there c.loop-left-test.true c.loop-left.invariant.fits c.loop-left.invariant.so_far
+      so_far = taken-more c.args.steps c.loop-left.left (state c.args.start c.args.memory) here there c.loop-left-test.true c.loop-left.invariant.fits c.loop-left.invariant.so_far
           (kept-step c.in-Some.instruction here at_pc.0 ∙ c.in-Went.ensures.effect)
           (kept-prints c.in-Some.instruction here at_pc.0 ∙ sym c.in-Went.ensures.prints);
       stays = effect-fixed c.in-Some.instruction here there c.execute.result c.execute.ensures.effect ∙ c.loop-left.invariant.stays;
@@ -53,7 +53,7 @@ returns-in_default c =
     subst (λ (a : ℕ). (option_map decoded (fetched c.loop-left.memory a) ≡ Some (Some c.in-Some.instruction)) × InRange c.in-Some.instruction) pc_is
     (code-at c.args.base c.args.code.now c.loop-left.memory pc c.in-Some.instruction code even late c.if-index-code.false c.in-Some.is) in
     record {
-      took = continues-last c.args.steps c.loop-left.left (state c.args.start c.args.memory.now) here there c.execute.result c.loop-left-test.true c.loop-left.invariant.fits c.loop-left.invariant.so_far
+      took = continues-last c.args.steps c.loop-left.left (state c.args.start c.args.memory) here there c.execute.result c.loop-left-test.true c.loop-left.invariant.fits c.loop-left.invariant.so_far
           (subst (λ (r : Result State Ending). Answers r here c.execute.result there) (sym (kept-step c.in-Some.instruction here at_pc.0)) c.execute.ensures.effect)
           (c.execute.ensures.prints ∙ sym (kept-prints c.in-Some.instruction here at_pc.0)) c.in_default.not-Went;
       fits = omega (arith, c.loop-left-test.true, c.loop-left.invariant.fits);
@@ -62,7 +62,7 @@ returns-in_default c =
     }
 
 pub returns-in-None-clause-took : goal.returns-in-None-clause-took
-returns-in-None-clause-took c = continues-quiet Went c.args.steps c.loop-left.left (state c.args.start c.args.memory.now) (state c.loop-left.hart c.loop-left.memory) refl c.loop-left.invariant.fits c.loop-left.invariant.so_far
+returns-in-None-clause-took c = continues-quiet Went c.args.steps c.loop-left.left (state c.args.start c.args.memory) (state c.loop-left.hart c.loop-left.memory) refl c.loop-left.invariant.fits c.loop-left.invariant.so_far
 
 pub returns-clause-took : goal.returns-clause-took
-returns-clause-took c = continues-quiet Went c.args.steps c.loop-left.left (state c.args.start c.args.memory.now) (state c.loop-left.hart c.loop-left.memory) refl c.loop-left.invariant.fits c.loop-left.invariant.so_far
+returns-clause-took c = continues-quiet Went c.args.steps c.loop-left.left (state c.args.start c.args.memory) (state c.loop-left.hart c.loop-left.memory) refl c.loop-left.invariant.fits c.loop-left.invariant.so_far
