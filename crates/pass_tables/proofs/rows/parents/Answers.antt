@@ -1,0 +1,20 @@
+use Rattle.std.proofs.Common.{◌≡◌, ℕ, ◌∙◌, ap, length, map, arith}
+use Rattle.std.specs.Prelude.{codes}
+use Rattle.std.specs.List.{range_with_len}
+use Rattle.text_columns.specs.declared.column.Align.TheVariants.{Right}
+use Rattle.pass_tables.specs.Tables.{number_or_dash, numbers_or_dashes}
+use Rattle.pass_tables.specs.ByRow.{parent_in}
+use Rattle.pass_tables.proofs.Cells.{next_given}
+use Rattle.pass_tables.proofs.Told.{parents_by_places}
+use Rattle.pass_tables.proofs.rows.parents.Goals as goal
+
+pub loop-k-preserved : goal.loop-k-preserved
+loop-k-preserved c =
+    next_given number_or_dash (parent_in c.args.rows.now) (codes "parent") Right c.loop-k.k (number_or_dash c.parent_of.result) c.loop-k.column c.push_or_dash.new.column c.loop-k.invariant
+    c.in_ok-push_or_dash.ensures (ap number_or_dash c.parent_of.ensures)
+
+pub returns : goal.returns
+returns c =
+    let all : c.loop-k.k ≡ length c.args.rows.now = omega (arith, c.loop-k-test.false, c.loop-k.auto.k-end, c.len-k-end.ensures) in
+    c.loop-k.invariant ∙ ap (λ (n : ℕ). numbers_or_dashes (codes "parent") (map (parent_in c.args.rows.now) (range_with_len 0 n))) all
+    ∙ ap (λ ns. numbers_or_dashes (codes "parent") ns) (parents_by_places c.args.rows.now)

@@ -1,0 +1,4 @@
+pub mod Tables
+pub mod ByRow
+pub mod FrameNumbers
+pub mod Worked

@@ -1,0 +1,113 @@
+//! The tokens of a text.
+
+ghost use Rattle.std.specs.Prelude.{◌≡◌, codes, drop, map, slice_index_or, take, IfOk};
+ghost use Rattle.source_meaning.specs.Grammar.{terminal_name};
+ghost use Rattle.pass_tables.specs.Tables.{lexeme_of, texts, token_table, token_text};
+
+use crate::columns::{numbers, places, table};
+use ast_rows::Tokens;
+use source_meaning::Terminal;
+use std::alloc::{AllocError, Global};
+use text_columns::{Align, Column};
+
+// The number at a place of a column, or 0 behind the last one.
+fn at(column: &[u32], place: usize) -> u32
+    ensures { result ≡ slice_index_or column.now place 0 }
+{
+    column.get(place).copied().unwrap_or(0)
+}
+
+// The bytes from a place on.
+fn behind(bytes: &[u8], place: usize) -> &[u8]
+    ensures { result.now ≡ drop place bytes.now }
+{
+    &bytes[place.min(bytes.len())..]
+}
+
+// The first bytes, so many or all.
+fn front(bytes: &[u8], count: usize) -> &[u8]
+    ensures { result.now ≡ take count bytes.now }
+{
+    &bytes[..count.min(bytes.len())]
+}
+
+/// The bytes of the token with a number, or nothing where there is none.
+pub(crate) fn lexeme<'a>(text: &'a [u8], tokens: &Tokens, number: usize) -> &'a [u8]
+    ensures { result.now ≡ token_text text.now tokens.now number }
+{
+    let start = at(tokens.starts(), number);
+    let length = at(tokens.lengths(), number);
+    front(behind(text, start as usize), length as usize)
+}
+
+// The bytes of each token.
+fn lexemes(alloc: Global, text: &[u8], tokens: &Tokens) -> Result<Column, AllocError>
+    ensures { IfOk result (λ column. column ≡ texts (codes "text") (map (lexeme_of text.now) tokens.now)) }
+{
+    let mut column = Column::new(alloc, b"text", Align::Left)?;
+    for k in 0..tokens.len() {
+        column.push(lexeme(text, tokens, k))?;
+    }
+    Ok(column)
+}
+
+// A terminal as the grammar's text names it.
+fn terminal_name(terminal: Terminal) -> &'static [u8]
+    ensures { result.now ≡ terminal_name terminal }
+{
+    match terminal {
+        Terminal::FnWord => b"fn",
+        Terminal::Ident => b"ident",
+        Terminal::LeftParen => b"(",
+        Terminal::RightParen => b")",
+        Terminal::Colon => b":",
+        Terminal::Comma => b",",
+        Terminal::VarWord => b"var",
+        Terminal::IntWord => b"int",
+        Terminal::BoolWord => b"bool",
+        Terminal::LeftBrace => b"{",
+        Terminal::RightBrace => b"}",
+        Terminal::Equals => b"=",
+        Terminal::Semicolon => b";",
+        Terminal::IfWord => b"if",
+        Terminal::ElseWord => b"else",
+        Terminal::WhileWord => b"while",
+        Terminal::ReturnWord => b"return",
+        Terminal::BarBar => b"||",
+        Terminal::AmpAmp => b"&&",
+        Terminal::Cmp => b"cmp",
+        Terminal::Add => b"add",
+        Terminal::MinusSign => b"minus",
+        Terminal::Mul => b"mul",
+        Terminal::Unop => b"unop",
+        Terminal::Digits => b"num",
+        Terminal::TrueWord => b"true",
+        Terminal::FalseWord => b"false",
+        Terminal::LeftBracket => b"[",
+        Terminal::RightBracket => b"]",
+        Terminal::PrintWord => b"print",
+    }
+}
+
+// The names of terminals.
+fn terminals(alloc: Global, terminals: &[Terminal]) -> Result<Column, AllocError>
+    ensures { IfOk result (λ column. column ≡ texts (codes "terminal") (map terminal_name terminals.now)) }
+{
+    let mut column = Column::new(alloc, b"terminal", Align::Left)?;
+    for terminal in terminals {
+        column.push(terminal_name(*terminal))?;
+    }
+    Ok(column)
+}
+
+/// The tokens of a text: the terminal of each, the place of its first byte, how many bytes it has, and these bytes.
+pub fn token_table(alloc: Global, text: &[u8], tokens: &Tokens) -> Result<Vec<u8>, AllocError>
+    ensures { IfOk result (λ table. table.items ≡ token_table text.now tokens.now) }
+{
+    let places = places(alloc, b"token", tokens.len())?;
+    let lexemes = lexemes(alloc, text, tokens)?;
+    let terminals = terminals(alloc, tokens.kinds())?;
+    let starts = numbers(alloc, b"start", tokens.starts())?;
+    let lengths = numbers(alloc, b"length", tokens.lengths())?;
+    table(alloc, &[places, terminals, starts, lengths, lexemes])
+}

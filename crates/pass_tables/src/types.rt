@@ -1,0 +1,42 @@
+//! The types of expressions.
+
+ghost use Rattle.std.specs.Prelude.{◌≡◌, codes, map, IfOk};
+ghost use Rattle.pass_tables.specs.Tables.{texts, type_or_dash, type_table};
+
+use crate::columns::{places, table};
+use crate::rows::{kinds, type_text};
+use ast_rows::{Rows, Types};
+use source_meaning::ValueType;
+use std::alloc::{AllocError, Global};
+use text_columns::{Align, Column};
+
+// The word for a type, or a dash where there is none.
+fn type_or_dash(value_type: Option<ValueType>) -> &'static [u8]
+    ensures { result.now ≡ type_or_dash value_type }
+{
+    match value_type {
+        Some(value_type) => type_text(value_type),
+        None => b"-",
+    }
+}
+
+// The type of each row.
+fn types_of(alloc: Global, types: &[Option<ValueType>]) -> Result<Column, AllocError>
+    ensures { IfOk result (λ column. column ≡ texts (codes "type") (map type_or_dash types.now)) }
+{
+    let mut column = Column::new(alloc, b"type", Align::Left)?;
+    for value_type in types {
+        column.push(type_or_dash(*value_type))?;
+    }
+    Ok(column)
+}
+
+/// The types of the expressions among rows.
+pub fn type_table(alloc: Global, rows: &Rows, types: &Types) -> Result<Vec<u8>, AllocError>
+    ensures { IfOk result (λ table. table.items ≡ type_table rows.now types.now) }
+{
+    let places = places(alloc, b"row", rows.len())?;
+    let kinds = kinds(alloc, rows.kinds())?;
+    let types = types_of(alloc, types.as_slice())?;
+    table(alloc, &[places, kinds, types])
+}

@@ -1,0 +1,4 @@
+pub mod Columns
+pub mod Kept
+pub mod Lines
+pub mod Worked

@@ -1,0 +1,12 @@
+//! A table of text: columns side by side, each padded to one width.
+#![tactic(auto)]
+
+mod column;
+mod table;
+#[cfg(test)]
+mod tests;
+mod worked;
+
+pub use column::{Align, Column};
+pub use table::push_table;
+pub use worked::worked_tables;
