@@ -1,17 +1,18 @@
 -- What a parse met, by the words alone.
-use Rattle.std.proofs.Common.{◌≡◌, ◌∙◌, ℕ, Bool, cond, true, false, refl, sym, ap, ap₂, subst, arith, List, [], ◌∷◌, Option, Some, None, unwrap_or}
-use Rattle.std.specs.Prelude.{option_and_then, option_map, is_some}
+use Rattle.std.proofs.Common.{◌≡◌, ◌∙◌, ℕ, ◌⊎◌, Bool, cond, true, false, inl, inr, refl, sym, ap, ap₂, subst, arith, List, [], ◌∷◌, codes, Option, Some, None, if◌then◌else◌, unwrap_or, Result, Ok, Err}
+use Rattle.std.specs.Prelude.{IfErr, IsErrAnd, option_and_then, option_map, is_some}
 use Rattle.std.proofs.lemmas.Bool.{ne_eqb}
 use Rattle.clap.specs.Kinds.{IsAmong, Kinds}
 use Rattle.clap.specs.Simple.{App, HasMatchesOf, is_simple, subcommand_of, subcommand_rows_of}
 use Rattle.clap.specs.Faults.{fault_of, is_simple_and_free}
-use Rattle.clap.specs.Walk.{Text, Row, is_empty}
+use Rattle.clap.specs.Walk.{Text, Row, first_of, is_empty}
 use Rattle.clap.specs.declared.parser.matches.ArgMatches.{ArgMatches}
 use Rattle.clap.specs.declared.error.kind.ErrorKind.{ErrorKind}
-use Rattle.command_line.specs.Words.{Asked, app, asked, asked_by, known, unknown_code}
-use Rattle.command_line.specs.Ranges.{HasNumbers}
+use Rattle.command_line.specs.Words.{Asked, IsNoCode, IsNoPass, app, asked, asked_by, flag_at, known, number_at, pass_named, shared_out, unknown_code}
+use Rattle.command_line.specs.Ranges.{HasWord, HasNumbers, of_build, of_run, of_show, of_batch, of_emu, of_dump, of_asm, of_table, of_drill, of_explain}
 use Rattle.command_line.specs.declared.command.Command.{Command}
-use Rattle.command_line.specs.declared.command.Command.TheVariants.{Build, Run, Batch, Emu, Dump, Asm, Table, Drill, Explain}
+use Rattle.command_line.specs.declared.command.Command.TheVariants.{Build, Run, Show, Batch, Emu, Dump, Asm, Table, Drill, Explain}
+use Rattle.command_line.specs.declared.command.Pass.{Pass}
 use Rattle.diagnostic_texts.specs.Explained.{Explained, explanation_of}
 use Rattle.command_line.proofs.Taken.{taken}
 
@@ -25,11 +26,11 @@ app_is_simple = refl
 pub asked_none : (words : List Text) (k : ErrorKind) → IsAmong k (fault_of app words) → asked words ≡ None
 asked_none words k h = go (fault_of app words) h
   where
-    go : (f : Kinds) → IsAmong k f → cond (is_empty f) (option_and_then (λ s. known (asked_by s.0 s.1)) (subcommand_of app words)) None ≡ None
+    go : (f : Kinds) → IsAmong k f → cond (is_empty f) (option_and_then (λ s. option_and_then known (asked_by s.0 s.1)) (subcommand_of app words)) None ≡ None
     go [] h = absurd h
-    go (x ∷ xs) h = ap (λ b. cond b (option_and_then (λ s. known (asked_by s.0 s.1)) (subcommand_of app words)) None) (ne_eqb _ _ (λ e. absurd (omega arith)))
+    go (x ∷ xs) h = ap (λ b. cond b (option_and_then (λ s. option_and_then known (asked_by s.0 s.1)) (subcommand_of app words)) None) (ne_eqb _ _ (λ e. absurd (omega arith)))
 
-asked_some : (words : List Text) (s : Text × List Row) → fault_of app words ≡ [] → subcommand_of app words ≡ Some s → asked words ≡ known (asked_by s.0 s.1)
+asked_some : (words : List Text) (s : Text × List Row) → fault_of app words ≡ [] → subcommand_of app words ≡ Some s → asked words ≡ option_and_then known (asked_by s.0 s.1)
 asked_some words s none is = rw (none, is) refl
 
 -- the subcommand that was met
@@ -38,7 +39,7 @@ pub record Met (words : List Text) (m : ArgMatches) : Type 0 where
   pub rows : List Row
   pub is_met : subcommand_rows_of m ≡ Some (name, rows)
   pub numbers : HasNumbers rows name
-  pub is_asked : asked words ≡ known (asked_by name rows)
+  pub is_asked : asked words ≡ option_and_then known (asked_by name rows)
 
 pub met : (a : App) (ws words : List Text) (m : ArgMatches) → a ≡ app → ws ≡ words → fault_of a ws ≡ [] → HasMatchesOf a ws m → Met words m
 met a ws words m a_is ws_are none has =
@@ -59,7 +60,7 @@ mapped_twice f g (Some x) = refl
 -- what the getter of a subcommand gives
 pub record Got (words : List Text) (name : Text) (rows : List Row) : Type 0 where
   pub numbers : HasNumbers rows name
-  pub is_asked : asked words ≡ known (asked_by name rows)
+  pub is_asked : asked words ≡ option_and_then known (asked_by name rows)
 
 pub got : (words : List Text) (m : ArgMatches) (name : Text) (rows : List Row) → Met words m → option_map (λ s. s.0) (subcommand_rows_of m) ≡ Some name
     → option_map (λ s. s.1) (subcommand_rows_of m) ≡ Some rows → Got words name rows
@@ -68,13 +69,77 @@ got words m name rows x name_is rows_is =
     let same_rows : x.rows ≡ rows = ap (λ o. unwrap_or o rows) (sym (ap (option_map (λ s. s.1)) x.is_met) ∙ rows_is) in
     record {
       numbers = subst (λ n. HasNumbers rows n) same_name (subst (λ rs. HasNumbers rs x.name) same_rows x.numbers);
-      is_asked = x.is_asked ∙ ap₂ (λ n rs. known (asked_by n rs)) same_name same_rows;
+      is_asked = x.is_asked ∙ ap₂ (λ n rs. option_and_then known (asked_by n rs)) same_name same_rows;
     }
 
-pub taken_asked : (words : List Text) → fault_of app words ≡ [] → (a : Asked) × (asked words ≡ known a)
+-- what a `?` hands on
+pub handed_on : {A E : Type 0} (P : E → Type 0) (r : Result A E) (f : E) → IsErrAnd r (λ e. e ≡ f) → P f → IfErr r P
+handed_on P (Ok x) f is p = absurd is
+handed_on P (Err e) f is p = subst P (sym is) p
+
+-- what words ask for that name a subcommand
+module _ (words : List Text) (rows : List Row) where
+  abbrev Asks : Type 0
+  Asks = ((a : Asked) × (asked words ≡ Some a)) ⊎ (IsNoCode words ⊎ IsNoPass words)
+
+  abbrev explained_with : Option Explained → Option Asked
+  explained_with o =
+      if is_some (if is_some o then None else Some (number_at (codes "code") rows)) then None else Some (record { command = Explain (number_at (codes "code") rows); workers = 1; chunk = 1 })
+
+  asks_to_explain : subcommand_of app words ≡ Some (codes "explain", rows) → asked words ≡ option_and_then known (asked_by (codes "explain") rows) → Asks
+  asks_to_explain explains h = go (explanation_of (number_at (codes "code") rows)) refl
+    where
+      go : (o : Option Explained) → explanation_of (number_at (codes "code") rows) ≡ o → Asks
+      go None e = inr (inl (record { options = rows; explains = explains; is_none = e }))
+      go (Some x) e = inl (record { command = Explain (number_at (codes "code") rows); workers = 1; chunk = 1 }, h ∙ ap explained_with e)
+
+  abbrev shown_as : Option Pass → Option Asked
+  shown_as o = option_and_then known (option_map (λ (p : Pass). shared_out (Show p) rows) o)
+
+  shown_by : (word : Text) (o : Option Pass) → first_of (codes "pass") rows ≡ Some word → pass_named word ≡ o → option_and_then known (asked_by (codes "show") rows) ≡ shown_as o
+  shown_by word o first e = ap (λ (t : Option Text). shown_as (option_and_then pass_named t)) first ∙ ap shown_as e
+
+  asks_to_show : HasWord (codes "pass") rows → subcommand_of app words ≡ Some (codes "show", rows) → asked words ≡ option_and_then known (asked_by (codes "show") rows) → Asks
+  asks_to_show w shows h = go (pass_named w.text) refl
+    where
+      go : (o : Option Pass) → pass_named w.text ≡ o → Asks
+      go None e = inr (inr (record { options = rows; word = w.text; shows = shows; is_word = w.is_first; is_none = e }))
+      go (Some p) e = inl (shared_out (Show p) rows, h ∙ shown_by w.text (Some p) w.is_first e)
+
+  asks : (name : Text) → HasNumbers rows name → subcommand_of app words ≡ Some (name, rows) → asked words ≡ option_and_then known (asked_by name rows) → Asks
+  asks _ (of_build plan) is h = inl (shared_out (Build (flag_at (codes "fold") rows)) rows, h)
+  asks _ (of_run plan steps) is h = inl (shared_out (Run (number_at (codes "steps") rows) (flag_at (codes "fold") rows)) rows, h)
+  asks _ (of_show word plan) is h = asks_to_show word is h
+  asks _ (of_batch plan) is h = inl (shared_out Batch rows, h)
+  asks _ (of_emu steps) is h = inl (record { command = Emu (number_at (codes "steps") rows); workers = 1; chunk = 1 }, h)
+  asks _ of_dump is h = inl (record { command = Dump; workers = 1; chunk = 1 }, h)
+  asks _ of_asm is h = inl (record { command = Asm; workers = 1; chunk = 1 }, h)
+  asks _ of_table is h = inl (record { command = Table (first_of (codes "word") rows); workers = 1; chunk = 1 }, h)
+  asks _ (of_drill text plan) is h = inl (shared_out (Drill (number_at (codes "seed") rows) (number_at (codes "functions") rows)) rows, h)
+  asks _ (of_explain code) is h = asks_to_explain is h
+
+pub taken_asked : (words : List Text) → fault_of app words ≡ [] → ((a : Asked) × (asked words ≡ Some a)) ⊎ (IsNoCode words ⊎ IsNoPass words)
 taken_asked words none =
     let one = taken words none in
-    (asked_by one.0.0 one.0.1, asked_some words one.0 none one.1)
+    asks words one.0.1 one.0.0 one.2 one.1 (asked_some words one.0 none one.1)
+
+-- ---- words that ask for nothing
+
+abbrev asked_of : Option (Text × List Row) → Option Asked
+asked_of o = option_and_then (λ (s : Text × List Row). option_and_then known (asked_by s.0 s.1)) o
+
+nothing_asked : (words : List Text) (name : Text) (rows : List Row) → subcommand_of app words ≡ Some (name, rows) → option_and_then known (asked_by name rows) ≡ None → asked words ≡ None
+nothing_asked words name rows is none = go (is_empty (fault_of app words))
+  where
+    go : (b : Bool) → cond b (asked_of (subcommand_of app words)) None ≡ None
+    go true = ap asked_of is ∙ none
+    go false = refl
+
+pub no_code : (words : List Text) → IsNoCode words → asked words ≡ None
+no_code words n = nothing_asked words (codes "explain") n.options n.explains (ap (explained_with words n.options) n.is_none)
+
+pub no_pass : (words : List Text) → IsNoPass words → asked words ≡ None
+no_pass words n = nothing_asked words (codes "show") n.options n.shows (shown_by words n.options n.word None n.is_word n.is_none)
 
 -- ---- codes that no diagnostic has
 
@@ -89,6 +154,7 @@ refused false a h = cc
 unknown_to : (c : Command) → is_some (unknown_code c) ≡ true → (code : ℕ) × (c ≡ Explain code) × (explanation_of code ≡ None)
 unknown_to (Build fold) h = cc
 unknown_to (Run steps fold) h = cc
+unknown_to (Show pass) h = cc
 unknown_to Batch h = cc
 unknown_to (Emu steps) h = cc
 unknown_to Dump h = cc
@@ -101,9 +167,14 @@ unknown_to (Explain code) h = (code, refl, none_of code (explanation_of code) h)
 pub unknown : (a : Asked) → known a ≡ None → (code : ℕ) × (a.command ≡ Explain code) × (explanation_of code ≡ None)
 unknown a h = unknown_to a.command (refused (is_some (unknown_code a.command)) a h)
 
-asked_is : {X : Type 0} (f : X → Asked) (b : Bool) (o : Option X) (a : Asked) → cond b (option_and_then (λ s. known (f s)) o) None ≡ Some a → (s : Asked) × (known s ≡ Some a)
+asked_is : {X : Type 0} (f : X → Option Asked) (b : Bool) (o : Option X) (a : Asked) → cond b (option_and_then (λ s. option_and_then known (f s)) o) None ≡ Some a
+    → (s : Asked) × (known s ≡ Some a)
 asked_is f true None a h = cc
-asked_is f true (Some s) a h = (f s, h)
+asked_is f true (Some x) a h = go (f x) h
+  where
+    go : (q : Option Asked) → option_and_then known q ≡ Some a → (s : Asked) × (known s ≡ Some a)
+    go None e = cc
+    go (Some s) e = (s, e)
 asked_is f false o a h = cc
 
 kept : (s a : Asked) → known s ≡ Some a → is_some (unknown_code a.command) ≡ false

@@ -1,5 +1,5 @@
 -- The program's command line, as a command of `clap`, and what its words ask for.
-use Rattle.std.specs.Prelude.{ℕ, Bool, true, false, List, [], ◌∷◌, Option, Some, None, option_and_then, option_map, is_some, codes, unwrap_or, bytes_eq, if◌then◌else◌}
+use Rattle.std.specs.Prelude.{◌≡◌, ℕ, Bool, true, false, List, [], ◌∷◌, Option, Some, None, option_and_then, option_map, is_some, codes, unwrap_or, bytes_eq, if◌then◌else◌}
 use Rattle.std.specs.Option.{option_map_or}
 use Rattle.std.specs.Str.Parse.{digits_value, without_leading_plus}
 use Rattle.clap.specs.Walk.{Text, Rule, Row, first_of, one_of, is_empty}
@@ -9,7 +9,9 @@ use Rattle.clap.specs.declared.builder.action.ArgAction.TheVariants.{Set, SetTru
 use Rattle.clap.specs.declared.builder.value_parser.ValueParser.{ValueParser}
 use Rattle.clap.specs.declared.builder.value_parser.ValueParser.TheVariants as parsers
 use Rattle.command_line.specs.declared.command.Command.{Command}
-use Rattle.command_line.specs.declared.command.Command.TheVariants.{Build, Run, Batch, Emu, Dump, Asm, Table, Drill, Explain}
+use Rattle.command_line.specs.declared.command.Command.TheVariants.{Build, Run, Show, Batch, Emu, Dump, Asm, Table, Drill, Explain}
+use Rattle.command_line.specs.declared.command.Pass.{Pass}
+use Rattle.command_line.specs.declared.command.Pass.TheVariants.{Tokens, Parse, Rows, Names, Types, Frames, Code, All}
 use Rattle.diagnostic_texts.specs.Explained.{explanation_of}
 
 -- ---- the command
@@ -55,6 +57,10 @@ functions_option = required (value_option (codes "functions") (parsers.Unsigned 
 abbrev pub word_option : Rule
 word_option = value_option (codes "word") parsers.String
 
+-- any text is taken, and is asked afterwards whether it names a pass
+abbrev pub pass_option : Rule
+pass_option = required (value_option (codes "pass") parsers.String)
+
 -- a code is three digits
 abbrev pub code_value : Rule
 code_value = required (plain_value (codes "code") (parsers.Unsigned 100 999))
@@ -89,6 +95,9 @@ drill_shape = subcommand (codes "drill") (seed_option ∷ functions_option ∷ w
 abbrev pub explain_shape : Shape
 explain_shape = subcommand (codes "explain") (code_value ∷ [])
 
+abbrev pub show_shape : Shape
+show_shape = subcommand (codes "show") (pass_option ∷ workers_option ∷ chunk_option ∷ [])
+
 abbrev pub with_three : App → Shape → Shape → Shape → App
 with_three command one two three = with_subcommand (with_subcommand (with_subcommand command one) two) three
 
@@ -103,7 +112,7 @@ bare_app = record {
 abbrev pub app : App
 app = record {
   top = record bare_app.top { is_leaf = false };
-  subs = build_shape ∷ run_shape ∷ batch_shape ∷ emu_shape ∷ dump_shape ∷ asm_shape ∷ table_shape ∷ drill_shape ∷ explain_shape ∷ [];
+  subs = build_shape ∷ run_shape ∷ batch_shape ∷ emu_shape ∷ dump_shape ∷ asm_shape ∷ table_shape ∷ drill_shape ∷ explain_shape ∷ show_shape ∷ [];
 }
 
 -- ---- what words ask for
@@ -116,6 +125,23 @@ number_at name rows = digits_value 10 (without_leading_plus (unwrap_or (first_of
 abbrev pub flag_at : Text → List Row → Bool
 flag_at name rows = option_map_or (λ text. bytes_eq text (codes "true")) (one_of name rows) false
 
+-- the pass that a word names
+abbrev pub pass_named : Text → Option Pass
+pass_named word =
+    if bytes_eq word (codes "tokens") then Some Tokens
+    else if bytes_eq word (codes "parse") then Some Parse
+    else if bytes_eq word (codes "rows") then Some Rows
+    else if bytes_eq word (codes "names") then Some Names
+    else if bytes_eq word (codes "types") then Some Types
+    else if bytes_eq word (codes "frames") then Some Frames
+    else if bytes_eq word (codes "code") then Some Code
+    else if bytes_eq word (codes "all") then Some All
+    else None
+
+-- the pass of the option
+abbrev pub pass_at : List Row → Option Pass
+pass_at rows = option_and_then pass_named (first_of (codes "pass") rows)
+
 -- a command, and how its work is shared out
 pub record Asked : Type 0 where
   pub command : Command
@@ -126,18 +152,19 @@ abbrev pub shared_out : Command → List Row → Asked
 shared_out command rows =
     record { command = command; workers = number_at (codes "workers") rows; chunk = number_at (codes "chunk") rows }
 
--- what a subcommand asks for with its options; `emu`, `dump`, `asm`, `table` and `explain` have no options for sharing
-abbrev pub asked_by : Text → List Row → Asked
+-- what a subcommand asks for with its options, unless it is to show what is no pass; `emu`, `dump`, `asm`, `table` and `explain` have no options for sharing
+abbrev pub asked_by : Text → List Row → Option Asked
 asked_by name rows =
-    if bytes_eq name (codes "build") then shared_out (Build (flag_at (codes "fold") rows)) rows
-    else if bytes_eq name (codes "run") then shared_out (Run (number_at (codes "steps") rows) (flag_at (codes "fold") rows)) rows
-    else if bytes_eq name (codes "batch") then shared_out Batch rows
-    else if bytes_eq name (codes "emu") then record { command = Emu (number_at (codes "steps") rows); workers = 1; chunk = 1 }
-    else if bytes_eq name (codes "dump") then record { command = Dump; workers = 1; chunk = 1 }
-    else if bytes_eq name (codes "asm") then record { command = Asm; workers = 1; chunk = 1 }
-    else if bytes_eq name (codes "drill") then shared_out (Drill (number_at (codes "seed") rows) (number_at (codes "functions") rows)) rows
-    else if bytes_eq name (codes "explain") then record { command = Explain (number_at (codes "code") rows); workers = 1; chunk = 1 }
-    else record { command = Table (first_of (codes "word") rows); workers = 1; chunk = 1 }
+    if bytes_eq name (codes "build") then Some (shared_out (Build (flag_at (codes "fold") rows)) rows)
+    else if bytes_eq name (codes "run") then Some (shared_out (Run (number_at (codes "steps") rows) (flag_at (codes "fold") rows)) rows)
+    else if bytes_eq name (codes "show") then option_map (λ pass. shared_out (Show pass) rows) (pass_at rows)
+    else if bytes_eq name (codes "batch") then Some (shared_out Batch rows)
+    else if bytes_eq name (codes "emu") then Some (record { command = Emu (number_at (codes "steps") rows); workers = 1; chunk = 1 })
+    else if bytes_eq name (codes "dump") then Some (record { command = Dump; workers = 1; chunk = 1 })
+    else if bytes_eq name (codes "asm") then Some (record { command = Asm; workers = 1; chunk = 1 })
+    else if bytes_eq name (codes "drill") then Some (shared_out (Drill (number_at (codes "seed") rows) (number_at (codes "functions") rows)) rows)
+    else if bytes_eq name (codes "explain") then Some (record { command = Explain (number_at (codes "code") rows); workers = 1; chunk = 1 })
+    else Some (record { command = Table (first_of (codes "word") rows); workers = 1; chunk = 1 })
 
 -- the code that is to be explained, where no diagnostic has it
 abbrev pub unknown_code : Command → Option ℕ
@@ -148,9 +175,23 @@ unknown_code command = None
 abbrev pub known : Asked → Option Asked
 known a = if is_some (unknown_code a.command) then None else Some a
 
--- what words ask for, of which the first is the program's name; none exactly where clap finds a fault in them, or a code isn't known
+-- what words ask for, of which the first is the program's name; none exactly where clap finds a fault in them, or a code or a pass isn't known
 abbrev pub asked : List Text → Option Asked
-asked words = if is_empty (fault_of app words) then option_and_then (λ s. known (asked_by s.0 s.1)) (subcommand_of app words) else None
+asked words = if is_empty (fault_of app words) then option_and_then (λ s. option_and_then known (asked_by s.0 s.1)) (subcommand_of app words) else None
+
+-- the words are to explain a code that no diagnostic has
+pub record IsNoCode (words : List Text) : Type 0 where
+  pub options : List Row
+  pub explains : subcommand_of app words ≡ Some (codes "explain", options)
+  pub is_none : explanation_of (number_at (codes "code") options) ≡ None
+
+-- or to show what is no pass
+pub record IsNoPass (words : List Text) : Type 0 where
+  pub options : List Row
+  pub word : Text
+  pub shows : subcommand_of app words ≡ Some (codes "show", options)
+  pub is_word : first_of (codes "pass") options ≡ Some word
+  pub is_none : pass_named word ≡ None
 
 -- their command alone: what is due depends on nothing else in them
 abbrev pub command_of : List Text → Option Command

@@ -2,6 +2,27 @@
 
 use crate::word::Word;
 
+/// A pass of the compiler, whose arrays can be shown.
+#[derive(Clone, Copy, PartialEq, Eq, Debug)]
+pub enum Pass {
+    /// The tokens of the source.
+    Tokens,
+    /// The left parse of the tokens.
+    Parse,
+    /// The rows of the syntax tree.
+    Rows,
+    /// What the names mean.
+    Names,
+    /// The types of the expressions.
+    Types,
+    /// The frames of the functions.
+    Frames,
+    /// The words of the code.
+    Code,
+    /// All of these, one behind the other.
+    All,
+}
+
 /// What the program is asked to do.
 #[derive(Debug, Drop)]
 pub enum Command {
@@ -16,6 +37,11 @@ pub enum Command {
         steps: u32,
         /// Whether the constants of the program are folded.
         fold: bool,
+    },
+    /// Shows the arrays of a pass for the source on the input, as tables.
+    Show {
+        /// The pass.
+        pass: Pass,
     },
     /// Compiles each of the sources on the input, which stand there as records, and writes an answer for each.
     Batch,

@@ -1,13 +1,16 @@
 //! What the definitions say of words.
-ghost use Rattle.std.specs.Prelude.{◌≡◌, ℕ, List, [], ◌∷◌, Some, None, true, false, codes, is_some};
+ghost use Rattle.std.specs.Prelude.{◌≡◌, ◌⊎◌, ℕ, List, [], ◌∷◌, Some, None, true, false, codes, is_some};
 ghost use Rattle.clap.specs.Words.{fault_of};
-ghost use Rattle.command_line.specs.declared.command.Command.TheVariants.{Build, Run, Batch, Emu, Dump, Asm, Table, Drill, Explain};
-ghost use Rattle.command_line.specs.Words.{Asked, app, asked, known};
+ghost use Rattle.command_line.specs.declared.command.Command.TheVariants.{Build, Run, Show, Batch, Emu, Dump, Asm, Table, Drill, Explain};
+ghost use Rattle.command_line.specs.declared.command.Pass.TheVariants.{Rows, All};
+ghost use Rattle.command_line.specs.Words.{Asked, IsNoCode, IsNoPass, app, asked, known};
 ghost use Rattle.diagnostic_texts.specs.Explained.{explanation_of};
 
-/// Words in which `clap` finds no fault ask for something, unless it is to explain a code that no diagnostic has.
+/// Words in which `clap` finds no fault ask for nothing exactly where they are to explain a code that no diagnostic has, or to show what is no pass.
 pub fn taken_words_ask()
-    ensures asks { (words : List (List ℕ)) → fault_of app words ≡ [] → (a : Asked) × (asked words ≡ known a) }
+    ensures asks { (words : List (List ℕ)) → fault_of app words ≡ [] → ((a : Asked) × (asked words ≡ Some a)) ⊎ (IsNoCode words ⊎ IsNoPass words) }
+    ensures no_code { (words : List (List ℕ)) → IsNoCode words → asked words ≡ None }
+    ensures no_pass { (words : List (List ℕ)) → IsNoPass words → asked words ≡ None }
     ensures unless { (a : Asked) → known a ≡ None → (code : ℕ) × (a.command ≡ Explain code) × (explanation_of code ≡ None) }
 {}
 
@@ -25,6 +28,11 @@ pub fn worked_words()
     ensures fold_valued { asked (codes "pareas" ∷ codes "build" ∷ codes "--fold=true" ∷ []) ≡ None }
     ensures fold_elsewhere { asked (codes "pareas" ∷ codes "emu" ∷ codes "--fold" ∷ []) ≡ None }
     ensures options { asked (codes "pareas" ∷ codes "run" ∷ codes "--steps=14" ∷ codes "--workers" ∷ codes "64" ∷ []) ≡ Some (record { command = Run 14 false; workers = 64; chunk = 1024 }) }
+    ensures show { asked (codes "pareas" ∷ codes "show" ∷ codes "--pass" ∷ codes "rows" ∷ []) ≡ Some (record { command = Show Rows; workers = 4; chunk = 1024 }) }
+    ensures show_all { asked (codes "pareas" ∷ codes "show" ∷ codes "--workers" ∷ codes "2" ∷ codes "--pass=all" ∷ []) ≡ Some (record { command = Show All; workers = 2; chunk = 1024 }) }
+    ensures no_pass { asked (codes "pareas" ∷ codes "show" ∷ codes "--pass" ∷ codes "row" ∷ []) ≡ None }
+    ensures passless { asked (codes "pareas" ∷ codes "show" ∷ []) ≡ None }
+    ensures two_passes { asked (codes "pareas" ∷ codes "show" ∷ codes "--pass" ∷ codes "rows" ∷ codes "--pass" ∷ codes "rows" ∷ []) ≡ None }
     ensures batch { asked (codes "pareas" ∷ codes "batch" ∷ []) ≡ Some (record { command = Batch; workers = 4; chunk = 1024 }) }
     ensures batch_options { asked (codes "pareas" ∷ codes "batch" ∷ codes "--chunk" ∷ codes "1" ∷ codes "--workers=2" ∷ []) ≡ Some (record { command = Batch; workers = 2; chunk = 1 }) }
     ensures fold_batch { asked (codes "pareas" ∷ codes "batch" ∷ codes "--fold" ∷ []) ≡ None }

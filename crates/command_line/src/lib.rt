@@ -8,7 +8,7 @@ mod parser;
 mod request;
 mod word;
 
-pub use command::Command;
+pub use command::{Command, Pass};
 pub use laws::{asked_codes_are_explained, taken_words_ask, worked_words};
 pub use parser::{Refusal, read};
 pub use request::Request;

@@ -2,8 +2,9 @@
 // its own, so that what it takes of the stack is given back before the next one begins.
 
 ghost use Rattle.std.specs.Prelude.{◌≡◌, IfOk, false};
+ghost use Rattle.clap.specs.Simple.{with_subcommand};
 ghost use Rattle.clap.specs.Words.{app_of, rule_of, shape_of};
-ghost use Rattle.command_line.specs.Words.{app, with_three, bare_app, build_shape, run_shape, batch_shape, emu_shape, dump_shape, asm_shape, table_shape, drill_shape, explain_shape, workers_option, chunk_option, steps_option, fold_option, seed_option, functions_option, word_option, code_value, plain_value, value_option, with_default, required};
+ghost use Rattle.command_line.specs.Words.{app, with_three, bare_app, build_shape, run_shape, batch_shape, emu_shape, dump_shape, asm_shape, table_shape, drill_shape, explain_shape, show_shape, pass_option, workers_option, chunk_option, steps_option, fold_option, seed_option, functions_option, word_option, code_value, plain_value, value_option, with_default, required};
 
 use clap::builder::ValueParser;
 use clap::{Arg, ArgAction, Command, value_parser};
@@ -70,7 +71,7 @@ fn required_value<'a>(
     plain_value(alloc, name, letter, numbers, help).required(true)
 }
 
-// An option with a number, which has to be given.
+// An option with a value, which has to be given.
 fn required_option<'a>(
     alloc: Global,
     name: &'a str,
@@ -145,6 +146,15 @@ fn word<'a>(alloc: Global) -> Arg<'a>
 {
     let help = "Parse this word: names separated by spaces";
     value_option(alloc, "word", "W", value_parser!(String), help)
+}
+
+fn pass<'a>(alloc: Global) -> Arg<'a>
+    ensures rule { rule_of result ≡ pass_option }
+    ensures local { result.global ≡ false }
+{
+    let help =
+        "Pass whose arrays are shown [possible values: tokens, parse, rows, names, types, frames, code, all]";
+    required_option(alloc, "pass", "PASS", value_parser!(String), help)
 }
 
 fn code<'a>(alloc: Global) -> Arg<'a>
@@ -260,6 +270,19 @@ fn explain<'a>(alloc: Global) -> Result<Command<'a>, AllocError>
         .arg(code(alloc))
 }
 
+#[inline(never)]
+fn show<'a>(alloc: Global) -> Result<Command<'a>, AllocError>
+    ensures { IfOk result (λ c. shape_of c ≡ show_shape) }
+{
+    Command::new(alloc, "show")
+        .about(
+            "Shows what a pass makes of a program from standard input, as in `pareas show --pass rows`: prints its arrays as tables",
+        )
+        .arg(pass(alloc))?
+        .arg(workers(alloc))?
+        .arg(chunk(alloc))
+}
+
 // The command before it has subcommands.
 #[inline(never)]
 fn bare<'a>(alloc: Global) -> Command<'a>
@@ -306,6 +329,14 @@ fn with_others<'a>(alloc: Global, command: Command<'a>) -> Result<Command<'a>, A
         .subcommand(explain(alloc)?)
 }
 
+// The same with the subcommand that shows passes.
+#[inline(never)]
+fn with_show<'a>(alloc: Global, command: Command<'a>) -> Result<Command<'a>, AllocError>
+    ensures { IfOk result (λ c. app_of c ≡ with_subcommand (app_of command.entry) show_shape) }
+{
+    command.subcommand(show(alloc)?)
+}
+
 /// The command line as `clap` reads it.
 #[inline(never)]
 pub(crate) fn command<'a>(alloc: Global) -> Result<Command<'a>, AllocError>
@@ -313,5 +344,6 @@ pub(crate) fn command<'a>(alloc: Global) -> Result<Command<'a>, AllocError>
 {
     let command = with_compilers(alloc, bare(alloc))?;
     let command = with_files(alloc, command)?;
-    with_others(alloc, command)
+    let command = with_others(alloc, command)?;
+    with_show(alloc, command)
 }

@@ -1,13 +1,13 @@
 // From the words to what they ask for.
 
-ghost use Rattle.std.specs.Prelude.{◌≡◌, Some, None, IfOk, map, string_bytes, codes, IfErr};
+ghost use Rattle.std.specs.Prelude.{◌≡◌, Some, None, IfOk, map, string_bytes, codes, IfErr, option_and_then};
 ghost use Rattle.clap.specs.Words.{first_of, found_of, rows_of, kind_of};
-ghost use Rattle.command_line.specs.Ranges.{HasNumber, HasPlan, HasSteps, HasNumbers};
-ghost use Rattle.command_line.specs.Words.{asked, asked_by, known, number_at, flag_at, unknown_code};
+ghost use Rattle.command_line.specs.Ranges.{HasNumber, HasPlan, HasSteps, HasNumbers, HasWord};
+ghost use Rattle.command_line.specs.Words.{asked, asked_by, known, number_at, flag_at, pass_at, pass_named, unknown_code};
 ghost use Rattle.command_line.specs.Refused.{IsUsage};
 ghost use Rattle.clap.specs.declared.error.kind.ErrorKind.TheVariants as ErrorKind;
 
-use crate::command::Command;
+use crate::command::{Command, Pass};
 use crate::options::command;
 use crate::request::Request;
 use crate::word::Word;
@@ -81,10 +81,44 @@ fn word(alloc: Global, options: &ArgMatches<'_>) -> Result<Option<Word>, AllocEr
     }
 }
 
+// The pass that a word names.
+fn pass_named(word: &str) -> Option<Pass>
+    ensures { result ≡ pass_named word.now }
+{
+    match word {
+        "tokens" => Some(Pass::Tokens),
+        "parse" => Some(Pass::Parse),
+        "rows" => Some(Pass::Rows),
+        "names" => Some(Pass::Names),
+        "types" => Some(Pass::Types),
+        "frames" => Some(Pass::Frames),
+        "code" => Some(Pass::Code),
+        "all" => Some(Pass::All),
+        _ => None,
+    }
+}
+
+// The pass that is to be shown, or what `clap` says of a value that isn't among the possible ones. Its own parser of such values holds a reference to
+// them, which no definition can name.
+fn pass(alloc: Global, options: &ArgMatches<'_>) -> Result<Pass, Refusal>
+    requires { HasWord (codes "pass") (rows_of (found_of options.now)) }
+    ensures shown { IfOk result (λ pass. pass_at (rows_of (found_of options.now)) ≡ Some pass) }
+    ensures refused { IfErr result (λ refusal. IsUsage refusal → pass_at (rows_of (found_of options.now)) ≡ None) }
+{
+    let word = options.get_str("pass").unwrap();
+    match pass_named(word) {
+        Some(pass) => Ok(pass),
+        None => Err(Refusal::Usage(format!(in alloc;
+            "error: invalid value '{word}' for '--pass <PASS>'\n  [possible values: tokens, parse, rows, names, types, frames, code, all]\n\nFor more information, try '--help'.\n"
+        )?)),
+    }
+}
+
 // What a subcommand asks for.
-fn request(alloc: Global, name: &str, options: &ArgMatches<'_>) -> Result<Request, AllocError>
+fn request(alloc: Global, name: &str, options: &ArgMatches<'_>) -> Result<Request, Refusal>
     requires { HasNumbers (rows_of (found_of options.now)) name.now }
-    ensures { IfOk result (λ request. request ≡ asked_by name.now (rows_of (found_of options.now))) }
+    ensures asked { IfOk result (λ request. asked_by name.now (rows_of (found_of options.now)) ≡ Some request) }
+    ensures refused { IfErr result (λ refusal. IsUsage refusal → asked_by name.now (rows_of (found_of options.now)) ≡ None) }
 {
     let request = match name {
         "build" => Request {
@@ -97,6 +131,12 @@ fn request(alloc: Global, name: &str, options: &ArgMatches<'_>) -> Result<Reques
             command: Command::Run {
                 steps: number(options, "steps"),
                 fold: flag(options, "fold"),
+            },
+            plan: plan(options),
+        },
+        "show" => Request {
+            command: Command::Show {
+                pass: pass(alloc, options)?,
             },
             plan: plan(options),
         },

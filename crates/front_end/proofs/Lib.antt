@@ -1,3 +1,4 @@
 pub mod Placing
 pub mod Judging
+pub mod Faulty
 pub mod Spelled

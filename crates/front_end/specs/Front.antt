@@ -52,6 +52,12 @@ pub record IsAnalysis (text : List ℕ) (t : Tree Prog) (f : Analysis) : Type 0 
   pub numbers_many : length f.names.numbers ≡ length f.rows
   pub types_are : f.types ≡ types (ast t)
 
+-- the refusal tells this of the source, unless memory is out
+abbrev pub TellsThat : Type 0 → Refusal → Type 0
+TellsThat A (Diagnostic code at) = A
+TellsThat A (Limit code at bytes) = A
+TellsThat A NoMemory = Unit {0}
+
 -- the refusal is what the compiler says of the source, where its constants are folded or not
 abbrev pub IsRefusedBy : Bool → List ℕ → Refusal → Type 0
 IsRefusedBy fold text (Diagnostic code at) = IsVerdict fold text (Diagnosed code at)

@@ -1,5 +1,5 @@
 //! What is known of a source before its code is made.
-ghost use Rattle.std.specs.Prelude.{◌≤◌, length, IfOk, IfErr, OnOk};
+ghost use Rattle.std.specs.Prelude.{◌<◌, ◌≤◌, length, IfOk, IfErr, OnErr, OnOk};
 ghost use Rattle.limits.specs.Limits.{most_source};
 ghost use Rattle.grammar_file.specs.Spelling.{IsReduced};
 ghost use Rattle.llp_tables.specs.EntryTable.{AreTablesOf};
@@ -117,10 +117,11 @@ fn behind_tokens(
     meant(crew, source, tokens, rows)
 }
 
-// The limit of a source's bytes.
-fn check_size(source: &[u8]) -> Result<(), Refusal>
+/// The limit of a source's bytes.
+pub fn check_size(source: &[u8]) -> Result<(), Refusal>
     ensures fits { OnOk result (length source.now ≤ most_source) }
     ensures refused { IfErr result (IsRefused source.now) }
+    ensures large { OnErr result (most_source < length source.now) }
 {
     if source.len() > MOST_SOURCE {
         return Err(Refusal::Limit {

@@ -9,10 +9,10 @@ mod refusal;
 mod tables;
 mod words;
 
-pub use analysis::{Analysis, front, front_by};
+pub use analysis::{Analysis, check_size, front, front_by};
 pub use laws::limits_come_last;
 pub use phases::{lexed, named, parsed, shaped, typed};
 pub use places::place;
 pub use refusal::Refusal;
-pub use tables::language_tables;
+pub use tables::{language_grammar, language_tables};
 pub use words::terminal_number;

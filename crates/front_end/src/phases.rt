@@ -1,14 +1,15 @@
 //! The phases of the front, each with what its fault says of the source.
 ghost use Rattle.std.specs.Prelude.{◌≡◌, [], ◌≤◌, ◌<◌, ◌^◌, length, map, None, IfOk, IfErr};
 ghost use Rattle.limits.specs.Limits.{most_source, most_rows};
-ghost use Rattle.source_meaning.specs.Lexemes.{tokens as tokens_of};
-ghost use Rattle.source_meaning.specs.Grammar.{Tree, Prog, ast, grammar};
+ghost use Rattle.source_meaning.specs.Lexemes.{lexical_fault, tokens as tokens_of};
+ghost use Rattle.source_meaning.specs.Grammar.{Tree, Prog, ast, grammar, leaves};
 ghost use Rattle.source_meaning.specs.Scope.{scope_faults};
+ghost use Rattle.source_meaning.specs.Shape.{shape_faults};
 ghost use Rattle.source_meaning.specs.Typing.{type_faults, types};
 ghost use Rattle.grammar_file.specs.Spelling.{IsReduced};
 ghost use Rattle.llp_tables.specs.EntryTable.{AreTablesOf};
 ghost use Rattle.tree_passes.specs.TreeColumns.{IsParseOf};
-ghost use Rattle.front_end.specs.Front.{AreNamesOf, AreTokens, AreRows, IsRefused};
+ghost use Rattle.front_end.specs.Front.{AreNamesOf, AreTokens, AreRows, IsRefused, TellsThat};
 
 use crate::places::place;
 use crate::refusal::Refusal;
@@ -24,6 +25,7 @@ use phase_faults::PhaseFault;
 use source_meaning::{derivations_have_trees, grammar_is_spelled};
 use tree_passes::rows;
 use type_pass::check;
+use verdict::{one_tree_of_text, syntax_errors_leave_no_tree};
 
 /// The tokens of the source.
 #[inline(never)]
@@ -31,6 +33,7 @@ pub fn lexed(crew: &impl Passes, source: &[u8]) -> Result<Tokens, Refusal>
     requires fits { length source.now ≤ most_source }
     ensures ok { IfOk result (λ t. AreTokens source.now t) }
     ensures refused { IfErr result (IsRefused source.now) }
+    ensures faulty { IfErr result (TellsThat (¬ (lexical_fault source.now ≡ None))) }
 {
     match lex(crew, source) {
         Ok(tokens) => Ok(tokens),
@@ -52,7 +55,9 @@ pub fn parsed(
     requires lexed { AreTokens source.now tokens.now }
     ensures ok { IfOk result (λ ps. (t : Tree Prog) × IsParseOf source.now ps.items t) }
     ensures refused { IfErr result (IsRefused source.now) }
+    ensures faulty { IfErr result (TellsThat ((t : Tree Prog) → ¬ (leaves t ≡ tokens_of source.now))) }
 {
+    syntax_errors_leave_no_tree();
     derivations_have_trees();
     grammar_is_spelled();
     spelled_grammars_are_well_formed();
@@ -79,7 +84,9 @@ pub fn shaped(
     requires parsed { (t : Tree Prog) × IsParseOf source.now productions.now t }
     ensures ok { IfOk result (λ v. (t : Tree Prog) × AreRows source.now v t) }
     ensures refused { IfErr result (IsRefused source.now) }
+    ensures faulty { IfErr result (TellsThat ((t : Tree Prog) → leaves t ≡ tokens_of source.now → ¬ (shape_faults (ast t) ≡ []))) }
 {
+    one_tree_of_text();
     match rows(crew, source, tokens, productions) {
         Ok(rows) => Ok(rows),
         Err(PhaseFault::Diagnostic { code, at }) => Err(Refusal::Diagnostic {
@@ -104,6 +111,7 @@ pub fn named(
     ensures scoped { IfOk result (λ n. (t : Tree Prog) → AreRows source.now rows.now t → scope_faults (length (tokens_of source.now)) (ast t) ≡ []) }
     ensures names { IfOk result (λ n. (t : Tree Prog) → AreRows source.now rows.now t → AreNamesOf n (ast t)) }
     ensures refused { (t : Tree Prog) → AreRows source.now rows.now t → IfErr result (IsRefused source.now) }
+    ensures faulty { (t : Tree Prog) → AreRows source.now rows.now t → IfErr result (TellsThat (¬ (scope_faults (length (tokens_of source.now)) (ast t) ≡ []))) }
 {
     programs_are_formed();
     match resolve(crew, source, tokens, rows) {
@@ -131,6 +139,8 @@ pub fn typed(
     ensures types { IfOk result (λ v. (t : Tree Prog) → AreRows source.now rows.now t → AreNamesOf names.now (ast t) → v ≡ types (ast t)) }
     ensures refused { (t : Tree Prog) → AreRows source.now rows.now t → scope_faults (length (tokens_of source.now)) (ast t) ≡ [] → AreNamesOf names.now (ast t)
         → IfErr result (IsRefused source.now) }
+    ensures faulty { (t : Tree Prog) → AreRows source.now rows.now t → scope_faults (length (tokens_of source.now)) (ast t) ≡ [] → AreNamesOf names.now (ast t)
+        → IfErr result (TellsThat (¬ (type_faults (ast t) ≡ []))) }
 {
     match check(crew, rows, names) {
         Ok(types) => Ok(types),

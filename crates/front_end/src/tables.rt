@@ -9,8 +9,8 @@ use llp_tables::{Tables, g2_is_ll1_and_llp, grammars_have_one_answer};
 use source_meaning::grammar_is_spelled;
 use std::alloc::{AllocError, Global};
 
-// The language's grammar, read from its text.
-fn language_grammar(alloc: Global) -> Result<Grammar, AllocError>
+/// The language's grammar, read from its text.
+pub fn language_grammar(alloc: Global) -> Result<Grammar, AllocError>
     ensures { IfOk result (λ g. (g ≡ grammar) × IsReduced grammar) }
 {
     grammar_is_spelled();

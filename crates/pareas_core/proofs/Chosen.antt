@@ -19,7 +19,7 @@ handed_on P (Ok x) f is p = absurd is
 handed_on P (Err e) f is p = subst P (sym is) p
 
 -- the rows and the names of the source's own program
-of_analysis : (text : List ℕ) (t : Tree Prog) (a : Analysis) (rows : List Row) (names : NameRows) → IsAnalysis text t a → rows ≡ a.rows → names ≡ a.names → AreRowsOf (ast t) rows names
+pub of_analysis : (text : List ℕ) (t : Tree Prog) (a : Analysis) (rows : List Row) (names : NameRows) → IsAnalysis text t a → rows ≡ a.rows → names ≡ a.names → AreRowsOf (ast t) rows names
 of_analysis text t a rows names k e f = record {
   rows_are = e ∙ k.rows_are;
   names_are = subst (λ (n : NameRows). AreNamesOf n (ast t)) (sym f) k.names_are;

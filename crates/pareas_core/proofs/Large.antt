@@ -29,6 +29,10 @@ one_found (Some f) at bytes e = (f, refl, ap (λ o. (from_some o).0) e, ap (λ o
     from_some None = (0, 0)
     from_some (Some p) = p
 
+pub found_none : (o : Option Function) (f : Function) → o ≡ Some f → o ≡ None → ⊥
+found_none None f e none = cc
+found_none (Some g) f e none = cc
+
 pub none_found : (o : Option Function) → option_map told o ≡ None → o ≡ None
 none_found None e = refl
 none_found (Some f) e = absurd (cc)

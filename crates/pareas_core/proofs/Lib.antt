@@ -10,3 +10,5 @@ pub mod FaultLine
 pub mod Large
 pub mod Rest
 mod Printing
+mod NamesShown
+mod Showing

@@ -12,7 +12,8 @@ use Rattle.verdict.specs.Verdict.{Verdict, Diagnosed, Limited, Accepted, IsVerdi
 use Rattle.pareas_core.specs.declared.status.Status.{Status}
 use Rattle.pareas_core.specs.declared.status.Status.TheVariants as statuses
 use Rattle.command_line.specs.declared.command.Command.{Command}
-use Rattle.command_line.specs.declared.command.Command.TheVariants.{Build, Run, Emu, Dump, Asm, Table, Drill, Explain}
+use Rattle.command_line.specs.declared.command.Command.TheVariants.{Build, Run, Show, Emu, Dump, Asm, Table, Drill, Explain}
+use Rattle.command_line.specs.declared.command.Pass.{Pass}
 use Rattle.elf_file.specs.Image.{elf}
 use Rattle.elf_file.specs.declared.fault.ElfFault.{ElfFault}
 use Rattle.elf_text.specs.Listing.{dumped, file_of_text}
@@ -23,10 +24,11 @@ use Rattle.simulation.specs.Behaves.{Behaves, IsFaulty, Overruns}
 use Rattle.table_text.specs.Answers.{IsTableAnswer}
 use Rattle.table_text.specs.declared.answer.TableAnswer.{TableAnswer}
 use Rattle.table_text.specs.declared.answer.TableAnswer.TheVariants as answers
-use Rattle.pareas_core.specs.Output.{Due, done, due_of_verdict, due_of_machine, due_of_dump, due_of_asm, due_of_drill, drill_lines, drill_steps, due_of_table, status_of, IsDue, built, ran, batched, bad_batch, emulated, listed, assembled, tabled, drilled, explained}
+use Rattle.pareas_core.specs.Output.{Due, done, due_of_verdict, due_of_machine, due_of_dump, due_of_asm, due_of_drill, drill_lines, drill_steps, due_of_table, status_of, IsDue, built, ran, shown, unshown, batched, bad_batch, emulated, listed, assembled, tabled, drilled, explained}
 use Rattle.pareas_core.specs.Reading.{WritesPrefix}
 use Rattle.pareas_core.specs.Headline.{CompilesTo, RunsAs, Runs, what_was_read, what_was_made, HasRun, reads, read_by, End, HasFailed, HasWorked, GotPrefix, IsWritten, IsAnswer, MeetsWords}
-use Rattle.pareas_core.specs.Responses.{HasRead, IsToldOf, IsResponse, IsDelivered, whole, broken_off}
+use Rattle.pareas_core.specs.Responses.{HasRead, IsToldOf, IsUnshown, IsResponse, IsDelivered, whole, broken_off}
+use Rattle.pareas_core.specs.Shown.{Shows}
 use Rattle.pareas_core.proofs.Batched.{image_compiled}
 
 -- ---- what is due
@@ -117,6 +119,9 @@ no_table_run word wanted bytes source steps r = elim r [ ]
 
 no_explain_run : (code : ℕ) (wanted : Bool) (bytes source : List ℕ) (steps : ℕ) → Runs (Explain code) bytes wanted source steps → ⊥
 no_explain_run code wanted bytes source steps r = elim r [ ]
+
+no_show_run : (pass : Pass) (wanted : Bool) (bytes source : List ℕ) (steps : ℕ) → Runs (Show pass) bytes wanted source steps → ⊥
+no_show_run pass wanted bytes source steps r = elim r [ ]
 
 -- an image that was built
 -- a build folds or doesn't, as its word says
@@ -279,6 +284,46 @@ explains code bytes d is = record {
   ran = λ wanted source n runs h. absurd (no_explain_run code wanted bytes source n runs);
 }
 
+-- ---- the tables of a pass
+
+abbrev nothing : Program → Due
+nothing p = done []
+
+module _ (pass : Pass) (bytes : List ℕ) where
+  IsShownDue : Due → Type 0
+  IsShownDue e = (text : List ℕ) × Shows bytes pass text × (e ≡ done text)
+
+  IsUnshownDue : Due → Type 0
+  IsUnshownDue e = (v : Verdict) × ((text : List ℕ) → ¬ Shows bytes pass text) × IsVerdict false bytes v × (e ≡ due_of_verdict nothing bytes v)
+
+  show_due : (e : Due) → IsDue (Show pass) bytes e → IsShownDue e ⊎ IsUnshownDue e
+  unfolding IsShownDue IsUnshownDue
+  show_due _ (shown {text = text} is) = inl (text, is, refl)
+  show_due _ (unshown {v = v} none is) = inr (v, none, is, refl)
+
+  pub shows : ((a b : List ℕ) → Shows bytes pass a → Shows bytes pass b → a ≡ b) → (text : List ℕ) (d : Due) → Shows bytes pass text → d ≡ done text → IsResponse (Show pass) bytes d
+  unfolding IsShownDue IsUnshownDue
+  shows one text d is same = record {
+    due = subst (IsDue (Show pass) bytes) (sym same) (shown is);
+    only = λ e h. elim (show_due e h) [ inl o ↦ o.2 ∙ ap done (one o.0 text o.1 is) ∙ sym same | inr o ↦ absurd (o.1 text is) ];
+    built = λ wanted build is_done. let e : Show pass ≡ Build wanted = build in cc;
+    ran = λ wanted source n runs h. absurd (no_show_run pass wanted bytes source n runs);
+  }
+
+  unshown_due : OneVerdict false bytes → (v : Verdict) (d : Due) → ((text : List ℕ) → ¬ Shows bytes pass text) → IsVerdict false bytes v → d ≡ due_of_verdict nothing bytes v → IsResponse (Show pass) bytes d
+  unfolding IsShownDue IsUnshownDue
+  unshown_due one v d none is same = record {
+    due = subst (IsDue (Show pass) bytes) (sym same) (unshown none is);
+    only = λ e h. elim (show_due e h) [ inl o ↦ absurd (none o.0 o.1) | inr o ↦ o.3 ∙ ap (due_of_verdict nothing bytes) (one o.0 v o.2 is) ∙ sym same ];
+    built = λ wanted build is_done. let e : Show pass ≡ Build wanted = build in cc;
+    ran = λ wanted source n runs h. absurd (no_show_run pass wanted bytes source n runs);
+  }
+
+  pub shows_none : OneVerdict false bytes → (r : Refusal) (d : Due) → IsUnshown bytes pass r → IsToldOf bytes r d → IsResponse (Show pass) bytes d
+  shows_none one (Diagnostic code at) d h line = unshown_due one (Diagnosed code at) d h.1 h.0 line
+  shows_none one (Limit code at size) d h line = unshown_due one (Limited code at size) d h.1 h.0 line
+  shows_none one NoMemory d h line = absurd line
+
 -- ---- what the outputs got
 
 pub got : (before after : Option (List ℕ)) (bytes : List ℕ) → Appends before after bytes → (old : List ℕ) → before ≡ Some old → after ≡ Some (old ++ bytes)
@@ -355,6 +400,8 @@ outcome _ bytes _ (ran {steps = steps} {v = v} is) = verdict_outcome (running no
 outcome _ bytes _ (drilled {seed = seed} {functions = functions} {v = v} is) =
     let text = drill_text seed functions in
     verdict_outcome (running (drill_lines text) drill_steps) text v (running_outcome (drill_lines text) drill_steps)
+outcome _ bytes _ (shown is) = tt
+outcome _ bytes _ (unshown {v = v} none is) = verdict_outcome (λ p. done []) bytes v (λ p. tt)
 outcome _ bytes _ (batched is answers) = tt
 outcome _ bytes _ (bad_batch is) = tt
 outcome _ bytes _ (emulated {steps = steps}) = machine_outcome [] (machine bytes steps)

@@ -3,6 +3,7 @@ pub mod Statuses
 pub mod Coded
 pub mod Memory
 pub mod Reading
+pub mod Shown
 pub mod Output
 pub mod Batch
 pub mod Printing

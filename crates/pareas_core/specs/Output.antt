@@ -3,7 +3,8 @@ use Rattle.std.specs.Prelude.{ℕ, ◌+◌, ◌-◌, Bool, false, List, [], ◌�
 use Rattle.std.specs.Fmt.{signed_decimal, digits}
 use Rattle.std.specs.List.{flat_map}
 use Rattle.command_line.specs.declared.command.Command.{Command}
-use Rattle.command_line.specs.declared.command.Command.TheVariants.{Build, Run, Batch, Emu, Dump, Asm, Table, Drill, Explain}
+use Rattle.command_line.specs.declared.command.Pass.{Pass}
+use Rattle.command_line.specs.declared.command.Command.TheVariants.{Build, Run, Show, Batch, Emu, Dump, Asm, Table, Drill, Explain}
 use Rattle.batch_records.specs.Batch.{IsBatch, IsBatchFault, fault_text}
 use Rattle.batch_records.specs.Answering.{Answered, all_bytes}
 use Rattle.batch_records.specs.declared.answer.AnswerKind.TheVariants as kinds
@@ -19,6 +20,7 @@ use Rattle.elf_text.specs.Listing.{dumped, file_of_text}
 use Rattle.rv_text.specs.FaultLines.{line_of_fault as line_of_asm_fault}
 use Rattle.rv_text.specs.declared.fault.AsmFault.{AsmFault}
 use Rattle.rv32_emul.specs.Machine.{Outcome, Course, Exits, Faults, More, machine}
+use Rattle.pareas_core.specs.Shown.{Shows}
 use Rattle.pareas_core.specs.declared.status.Status.{Status}
 use Rattle.pareas_core.specs.declared.status.Status.TheVariants.{Done, Refused, Limit, Running, Machine, Conflict, BadImage, BadGrammar, BadAsm, BadBatch}
 use Rattle.table_text.specs.Answers.{IsTableAnswer}
@@ -163,6 +165,10 @@ pub data IsDue : Command → List ℕ → Due → Type 0 where
   built : {fold : Bool} {bytes : List ℕ} {v : Verdict} → IsVerdict fold bytes v → IsDue (Build fold) bytes (due_of_verdict (λ p. done (image p)) bytes v)
   ran : {steps : ℕ} {fold : Bool} {bytes : List ℕ} {v : Verdict} → IsVerdict fold bytes v →
       IsDue (Run steps fold) bytes (due_of_verdict (λ p. due_of_machine [] (machine (image p) steps)) bytes v)
+  -- the tables of a pass, or what `build` says of a source that doesn't reach it
+  shown : {pass : Pass} {bytes text : List ℕ} → Shows bytes pass text → IsDue (Show pass) bytes (done text)
+  unshown : {pass : Pass} {bytes : List ℕ} {v : Verdict} → ((text : List ℕ) → ¬ Shows bytes pass text) → IsVerdict false bytes v →
+      IsDue (Show pass) bytes (due_of_verdict (λ p. done []) bytes v)
   -- the answers to all sources of a batch, or the fault of bytes that are no batch
   batched : {bytes : List ℕ} {sources : List (List ℕ)} {answers : List Answered} → IsBatch bytes sources → AreAnswers sources answers →
       IsDue Batch bytes (done (all_bytes answers))

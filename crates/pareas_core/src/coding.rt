@@ -1,13 +1,14 @@
 //! The code of a source whose front has no diagnostic.
-ghost use Rattle.std.specs.Prelude.{◌≡◌, ◌<◌, ◌≤◌, Bool, length, IfOk, IfErr};
-ghost use Rattle.limits.specs.Limits.{most_rows};
+ghost use Rattle.std.specs.Prelude.{◌≡◌, ◌<◌, ◌≤◌, Bool, None, length, nat_lt, IfOk, IfErr};
+ghost use Rattle.std.specs.List.{find};
+ghost use Rattle.limits.specs.Limits.{most_frame, most_rows};
 ghost use Rattle.source_meaning.specs.Ast.{Program as Source};
 ghost use Rattle.source_meaning.specs.Grammar.{Tree, Prog, ast};
-ghost use Rattle.source_meaning.specs.Frames.{depths as depths_of};
+ghost use Rattle.source_meaning.specs.Frames.{depths as depths_of, frame};
 ghost use Rattle.source_meaning.specs.Rows.{post};
 ghost use Rattle.folding.specs.Folding.{folded_program};
 ghost use Rattle.rv_code.specs.Code.{most_long, words as words_of};
-ghost use Rattle.front_end.specs.Front.{AreTokens, IsAnalysis, IsChecked, IsRefusedBy};
+ghost use Rattle.front_end.specs.Front.{AreTokens, IsAnalysis, IsChecked, IsRefusedBy, TellsThat};
 ghost use Rattle.verdict.specs.Verdict.{Accepted, IsVerdict, folded_if};
 ghost use Rattle.pareas_core.specs.Coded.{AreFrames, AreRowsOf, IsClean, IsCoded};
 
@@ -24,8 +25,8 @@ use std::alloc::AllocError;
 use std::marker::Brand;
 use std::sync::ledger::{Blank, Ledger};
 
-// What is left of an analysis for the code: the tokens, the rows, and what names mean. The types end here.
-fn parts(analysis: Analysis) -> (Tokens, Rows, Names)
+/// What is left of an analysis for the code: the tokens, the rows, and what names mean. The types end here.
+pub(crate) fn parts(analysis: Analysis) -> (Tokens, Rows, Names)
     ensures tokens { result.0 ≡ analysis.tokens }
     ensures rows { result.1 ≡ analysis.rows }
     ensures names { result.2 ≡ analysis.names }
@@ -67,7 +68,37 @@ fn compiled(
     }
 }
 
-// The frames of the functions. The tokens, which tell the place of one that is too large, end here.
+/// The frames of the functions, or the limit that one of them passes.
+pub(crate) fn frames_or_limit(
+    crew: &impl Passes,
+    source: &[u8],
+    tokens: &Tokens,
+    rows: &Rows,
+    depths: &[u32],
+) -> Result<Frames, Refusal>
+    requires nodes { length rows.now ≤ most_rows }
+    requires lexed { AreTokens source.now tokens.now }
+    ensures ok { IfOk result (λ f. (fold : Bool) (t : Tree Prog) → IsChecked source.now t → rows.now ≡ post (folded_if fold (ast t)) → depths.now ≡ depths_of (folded_if fold (ast t))
+        → AreFrames (folded_if fold (ast t)) f) }
+    ensures refused { (fold : Bool) (t : Tree Prog) → IsChecked source.now t → rows.now ≡ post (folded_if fold (ast t)) → depths.now ≡ depths_of (folded_if fold (ast t))
+        → IfErr result (IsRefusedBy fold source.now) }
+    ensures large { (fold : Bool) (t : Tree Prog) → IsChecked source.now t → rows.now ≡ post (folded_if fold (ast t)) → depths.now ≡ depths_of (folded_if fold (ast t))
+        → IfErr result (TellsThat (¬ (find (λ g. nat_lt most_frame (frame g).bytes) (folded_if fold (ast t)) ≡ None))) }
+{
+    limits_come_last();
+    compiled_programs_are_clean();
+    match frames(crew, rows, depths) {
+        Ok(frames) => Ok(frames),
+        Err(FrameFault::Large { at, bytes }) => Err(Refusal::Limit {
+            code: 602,
+            at: place(source, tokens, u64::from(at)),
+            bytes,
+        }),
+        Err(FrameFault::NoMemory) => Err(Refusal::NoMemory),
+    }
+}
+
+// The same. The tokens, which tell the place of a frame that is too large, end here.
 fn framed(
     crew: &impl Passes,
     source: &[u8],
@@ -82,21 +113,11 @@ fn framed(
     ensures refused { (fold : Bool) (t : Tree Prog) → IsChecked source.now t → rows.now ≡ post (folded_if fold (ast t)) → depths.now ≡ depths_of (folded_if fold (ast t))
         → IfErr result (IsRefusedBy fold source.now) }
 {
-    limits_come_last();
-    compiled_programs_are_clean();
-    match frames(crew, rows, depths) {
-        Ok(frames) => Ok(frames),
-        Err(FrameFault::Large { at, bytes }) => Err(Refusal::Limit {
-            code: 602,
-            at: place(source, &tokens, u64::from(at)),
-            bytes,
-        }),
-        Err(FrameFault::NoMemory) => Err(Refusal::NoMemory),
-    }
+    frames_or_limit(crew, source, &tokens, rows, depths)
 }
 
-// The words of the program.
-fn emitted(
+/// The words of the program, or the limit that they pass.
+pub(crate) fn emitted(
     crew: &impl Passes,
     source: &[u8],
     rows: &Rows,

@@ -18,6 +18,7 @@ mod program;
 mod reading;
 mod response;
 mod sharing;
+mod show;
 mod status;
 mod table;
 mod writing;

@@ -17,6 +17,7 @@ use crate::explain::explain;
 use crate::listing::{asm, dump};
 use crate::machine::emulate;
 use crate::position::{error_line, limit_line};
+use crate::show::show;
 use crate::status::Status;
 use crate::table::table;
 use crate::writing::{write_all, write_answers};
@@ -130,6 +131,7 @@ pub(crate) fn respond<R: Threads + Sync, G: Gate>(
     match command {
         Command::Build { fold } => build(crew, bytes, *fold),
         Command::Run { steps, fold } => run(crew, bytes, *steps, *fold),
+        Command::Show { pass } => show(crew, bytes, *pass),
         Command::Batch => batch(crew, bytes),
         Command::Emu { steps } => emulate(crew.alloc, Vec::new(crew.alloc), bytes, *steps),
         Command::Dump => dump(crew.alloc, bytes),

@@ -127,6 +127,31 @@ const LINES: &[(&str, &str)] = &[
     ("pareas build --fold --fold", ""),
     ("pareas run --fold=true", ""),
     ("pareas run --fold true", ""),
+    ("pareas show --pass tokens", "Show { pass: Tokens } 4 1024"),
+    ("pareas show --pass=parse", "Show { pass: Parse } 4 1024"),
+    (
+        "pareas show --workers 2 --pass rows",
+        "Show { pass: Rows } 2 1024",
+    ),
+    (
+        "pareas show --pass names --chunk 7",
+        "Show { pass: Names } 4 7",
+    ),
+    ("pareas show --pass types", "Show { pass: Types } 4 1024"),
+    ("pareas show --pass frames", "Show { pass: Frames } 4 1024"),
+    ("pareas show --pass code", "Show { pass: Code } 4 1024"),
+    ("pareas show --pass all", "Show { pass: All } 4 1024"),
+    ("pareas show", ""),
+    ("pareas show rows", ""),
+    ("pareas show --pass", ""),
+    ("pareas show --pass=", ""),
+    ("pareas show --pass row", ""),
+    ("pareas show --pass Rows", ""),
+    ("pareas show --pass rows names", ""),
+    ("pareas show --pass rows --pass rows", ""),
+    ("pareas show --pass rows --fold", ""),
+    ("pareas show --pass rows --steps 1", ""),
+    ("pareas build --pass rows", ""),
     ("pareas batch", "Batch 4 1024"),
     ("pareas batch --workers 2 --chunk 7", "Batch 2 7"),
     ("pareas batch --fold", ""),
@@ -185,6 +210,7 @@ const REFUSALS: &[(&str, &str)] = &[
     ("pareas help table", TABLE_HELP),
     ("pareas help drill", DRILL_HELP),
     ("pareas help explain", EXPLAIN_HELP),
+    ("pareas help show", SHOW_HELP),
     ("pareas --version", "pareas 0.1.0\n"),
     ("pareas", NO_COMMAND),
     ("pareas bild", UNKNOWN_COMMAND),
@@ -193,6 +219,8 @@ const REFUSALS: &[(&str, &str)] = &[
     ("pareas explain 304", UNKNOWN_CODE),
     ("pareas explain 50", CODE_OUT_OF_RANGE),
     ("pareas explain all", NO_NUMBER),
+    ("pareas show", NO_PASS),
+    ("pareas show --pass row", UNKNOWN_PASS),
 ];
 
 #[test]
@@ -219,6 +247,7 @@ Commands:
   table    Makes the LLP tables of a grammar from standard input: prints their sizes and the parse of a word, or a conflict
   drill    Compiles and runs a program made from a seed, as in `pareas drill --seed 1 --functions 2`: prints sizes and how it ends, reads no input
   explain  Explains a diagnostic, as in `pareas explain 504`: prints what it means, a source that has it and how it is mended, reads no input
+  show     Shows what a pass makes of a program from standard input, as in `pareas show --pass rows`: prints its arrays as tables
   help     Print this message or the help of the given subcommand(s)
 
 Options:
@@ -325,9 +354,21 @@ Options:
   -h, --help  Print help
 ";
 
+const SHOW_HELP: &str = "\
+Shows what a pass makes of a program from standard input, as in `pareas show --pass rows`: prints its arrays as tables
+
+Usage: pareas show [OPTIONS] --pass <PASS>
+
+Options:
+      --pass <PASS>  Pass whose arrays are shown [possible values: tokens, parse, rows, names, types, frames, code, all]
+      --workers <N>  Threads that share the work, 1 to 64 [default: 4]
+      --chunk <C>    Items that a thread draws at a time, 1 to 65536 [default: 1024]
+  -h, --help         Print help
+";
+
 const NO_COMMAND: &str = "\
 error: 'pareas' requires a subcommand but one was not provided
-  [subcommands: build, run, batch, emu, dump, asm, table, drill, explain, help]
+  [subcommands: build, run, batch, emu, dump, asm, table, drill, explain, show, help]
 
 Usage: pareas <COMMAND>
 
@@ -375,6 +416,22 @@ For more information, try '--help'.
 
 const NO_NUMBER: &str = "\
 error: invalid value 'all' for '<CODE>': invalid digit found in string
+
+For more information, try '--help'.
+";
+
+const NO_PASS: &str = "\
+error: the following required arguments were not provided:
+  --pass <PASS>
+
+Usage: pareas show --pass <PASS>
+
+For more information, try '--help'.
+";
+
+const UNKNOWN_PASS: &str = "\
+error: invalid value 'row' for '--pass <PASS>'
+  [possible values: tokens, parse, rows, names, types, frames, code, all]
 
 For more information, try '--help'.
 ";

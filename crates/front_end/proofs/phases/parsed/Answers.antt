@@ -35,3 +35,12 @@ returns-in-Err-Syntax-clause-refused g c = λ fold.
     c.as_slice.ensures.value ∙ (c.in_ok-word.ensures ∙ (ap (λ (rs : List TokenRow). map (λ r. terminal_number r.terminal) rs) c.requires.lexed.are ∙ terminals_of (tokens text))) in
     subst (λ (k : ℕ). IsVerdict fold text (Diagnosed 201 k)) (sym (c.place.ensures c.requires.lexed))
     (syntactic c.in-Err-Syntax.at c.requires.lexed.fits c.requires.lexed.lexical (subst (λ w. IsSyntaxPlace grammar w c.in-Err-Syntax.at) word is))
+
+pub returns-in-Err-Syntax-clause-faulty : goal.returns-in-Err-Syntax-clause-faulty
+returns-in-Err-Syntax-clause-faulty g c = λ t tree.
+    let text = c.args.source.now in
+    let well = c.spelled_grammars_are_well_formed.ensures G2.now grammar c.grammar_is_spelled.ensures in
+    let is : IsFaultBy c.args.tables.now c.as_slice.result.now (Syntax c.in-Err-Syntax.at) = subst (IsFaultBy c.args.tables.now c.as_slice.result.now) c.in-Err-Syntax.field-0-is c.in-Err-Syntax.ensures.fault in
+    let word : c.as_slice.result.now ≡ map (λ t. terminal_number t.terminal) (tokens text) =
+    c.as_slice.ensures.value ∙ (c.in_ok-word.ensures ∙ (ap (λ (rs : List TokenRow). map (λ r. terminal_number r.terminal) rs) c.requires.lexed.are ∙ terminals_of (tokens text))) in
+    c.syntax_errors_leave_no_tree.ensures text c.in-Err-Syntax.at (subst (λ w. IsSyntaxPlace grammar w c.in-Err-Syntax.at) word (is grammar c.requires.tables well c.requires.reduced)) t tree

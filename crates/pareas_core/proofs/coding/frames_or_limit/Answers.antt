@@ -6,8 +6,8 @@ use Rattle.source_meaning.specs.Lexemes.{tokens, place_of}
 use Rattle.source_meaning.specs.Grammar.{ast}
 use Rattle.source_meaning.specs.Frames.{frame}
 use Rattle.verdict.specs.Verdict.{Verdict, IsVerdict, Limited, folded_if}
-use Rattle.pareas_core.proofs.Large.{none_found, one_found}
-use Rattle.pareas_core.proofs.coding.framed.Goals as goal
+use Rattle.pareas_core.proofs.Large.{found_none, none_found, one_found}
+use Rattle.pareas_core.proofs.coding.frames_or_limit.Goals as goal
 
 pub place-requires : goal.place-requires
 place-requires g c = let h = c.requires.lexed.fits in omega arith
@@ -26,3 +26,11 @@ returns-in-Err-Large-clause-refused g c = λ fold t k rows deep.
     let f = one_found (find (λ h. nat_lt most_frame (frame h).bytes) p) c.in-Err-Large.at c.in-Err-Large.bytes e in
     let at : place_of text (tokens text) f.0.at ≡ c.place.result = ap (place_of text (tokens text)) (f.2 ∙ sym c.from.ensures) ∙ sym (c.place.ensures c.requires.lexed) in
     subst (λ (v : Verdict). IsVerdict fold text v) (λ i. Limited 602 (at i) (f.3 i)) (c.limits_come_last.ensures.frame fold text t f.0 k f.1)
+
+pub returns-in-Err-Large-clause-large : goal.returns-in-Err-Large-clause-large
+returns-in-Err-Large-clause-large g c = λ fold t k rows deep none.
+    let p = folded_if fold (ast t) in
+    let shaped = (c.compiled_programs_are_clean.ensures fold c.args.source.now t k).shaped in
+    let e = c.in-Err-Large.ensures.large c.in-Err-Large.at c.in-Err-Large.bytes (ap Err c.in-Err-Large.field-0-is) p shaped rows deep in
+    let f = one_found (find (λ h. nat_lt most_frame (frame h).bytes) p) c.in-Err-Large.at c.in-Err-Large.bytes e in
+    found_none (find (λ h. nat_lt most_frame (frame h).bytes) p) f.0 f.1 none

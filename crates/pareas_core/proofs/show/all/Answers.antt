@@ -1,0 +1,30 @@
+use Rattle.std.proofs.Common.{sym, subst}
+use Rattle.command_line.specs.declared.command.Pass.TheVariants.{All}
+use Rattle.pareas_core.specs.Shown.{Shows, all_shown}
+use Rattle.pareas_core.proofs.Showing.{all_only, code_only, passed_on, rows_only, types_only}
+use Rattle.pareas_core.proofs.show.all.Goals as goal
+
+pub returns-clause-shown : goal.returns-clause-shown
+returns-clause-shown g c =
+    let first = c.in_ok-tokens.ensures in
+    let meaning = c.in_ok-analysis.ensures in
+    let last = c.in_ok-code.ensures in
+    subst (Shows c.args.source.now All) (sym c.in_ok-joined.ensures) (all_shown _ _ _ _ _ _ _ first.tokens first.parse first.rows meaning.names meaning.types last.frames last.code)
+
+pub returns-in_err-tokens-clause-stopped : goal.returns-in_err-tokens-clause-stopped
+returns-in_err-tokens-clause-stopped g c =
+    let text = c.args.source.now in
+    passed_on text c.from_residual.result c.in_err-tokens.field-0.0 c.from_residual.ensures.1
+    (λ none table is. let h = all_only text table is in let rows = rows_only text h.rows_text h.rows_are in none rows.0 rows.1) c.in_err-tokens.ensures.stopped
+
+pub returns-in_err-analysis-clause-stopped : goal.returns-in_err-analysis-clause-stopped
+returns-in_err-analysis-clause-stopped g c =
+    let text = c.args.source.now in
+    passed_on text c.from_residual-in_err-analysis.result c.in_err-analysis.field-0.0 c.from_residual-in_err-analysis.ensures.1
+    (λ none table is. let h = all_only text table is in let types = types_only text h.types_text h.types_are in none types.0 types.1) c.in_err-analysis.ensures.stopped
+
+pub returns-in_err-code-clause-stopped : goal.returns-in_err-code-clause-stopped
+returns-in_err-code-clause-stopped g c =
+    let text = c.args.source.now in
+    passed_on text c.from_residual-in_err-code.result c.in_err-code.field-0.0 c.from_residual-in_err-code.ensures.1
+    (λ none table is. let h = all_only text table is in let code = code_only text h.code_text h.code_is in none code.0 code.1) c.in_err-code.ensures.stopped

@@ -1,0 +1,16 @@
+use Rattle.source_meaning.specs.Grammar.{Tree, Prog}
+use Rattle.pareas_core.specs.Responses.{Stops}
+use Rattle.pareas_core.specs.Shown.{IsParsed}
+use Rattle.pareas_core.proofs.Chosen.{handed_on}
+use Rattle.pareas_core.proofs.Showing.{passed_on, stopped}
+use Rattle.pareas_core.proofs.show.parse_of.Goals as goal
+
+pub returns-in_err-tokens-clause-stopped : goal.returns-in_err-tokens-clause-stopped
+returns-in_err-tokens-clause-stopped g c =
+    passed_on c.args.source.now c.from_residual.result c.in_err-tokens.field-0.0 c.from_residual.ensures.1 (λ none t is. none is.lexed) c.in_err-tokens.ensures.stopped
+
+pub returns-in_err-productions-clause-stopped : goal.returns-in_err-productions-clause-stopped
+returns-in_err-productions-clause-stopped g c =
+    let text = c.args.source.now in
+    handed_on (Stops ((t : Tree Prog) → ¬ IsParsed text t) text) c.from_residual-in_err-productions.result c.in_err-productions.field-0.0 c.from_residual-in_err-productions.ensures.1
+    (stopped text c.in_err-productions.field-0.0 c.in_err-productions.ensures.refused c.in_err-productions.ensures.faulty (λ none t is. none t is.tree))

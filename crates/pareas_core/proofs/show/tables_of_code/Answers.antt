@@ -1,0 +1,107 @@
+use Rattle.std.proofs.Common.{◌∙◌, false, length, ap, arith}
+use Rattle.source_meaning.specs.Ast.{Program}
+use Rattle.source_meaning.specs.Grammar.{ast}
+use Rattle.front_end.specs.Laws.Counting.{tree_few}
+use Rattle.verdict.specs.Verdict.{Accepted, IsVerdict}
+use Rattle.pareas_core.specs.Coded.{AreFrames, AreRowsOf}
+use Rattle.pareas_core.specs.Responses.{Stops}
+use Rattle.pareas_core.proofs.Chosen.{handed_on, of_analysis}
+use Rattle.pareas_core.proofs.Showing.{shows_code, shows_frames, unaccepted}
+use Rattle.pareas_core.proofs.show.tables_of_code.Goals as goal
+
+pub depths-requires-clause-nodes : goal.depths-requires-clause-nodes
+depths-requires-clause-nodes g c κs within =
+    let t = c.requires.analyzed in
+    let same = ap length c.parts-tokens.ensures.rows in
+    let h = tree_few c.args.source.now c.args.analysis.rows t.0 t.1.checked.fits (record { tree = t.1.checked.tree; shaped = t.1.checked.shaped; are = t.1.rows_are }) (c.rows_are_few.ensures t.0) in
+    omega arith
+
+pub frames_or_limit-requires-clause-nodes : goal.frames_or_limit-requires-clause-nodes
+frames_or_limit-requires-clause-nodes g c κs within =
+    let t = c.requires.analyzed in
+    let same = ap length c.parts-tokens.ensures.rows in
+    let h = tree_few c.args.source.now c.args.analysis.rows t.0 t.1.checked.fits (record { tree = t.1.checked.tree; shaped = t.1.checked.shaped; are = t.1.rows_are }) (c.rows_are_few.ensures t.0) in
+    omega arith
+
+pub frames_or_limit-requires-clause-lexed : goal.frames_or_limit-requires-clause-lexed
+frames_or_limit-requires-clause-lexed g c κs within =
+    let t = c.requires.analyzed in
+    record { fits = t.1.checked.fits; lexical = t.1.checked.lexical; are = c.parts-tokens.ensures.tokens ∙ t.1.tokens_are }
+
+pub emitted-requires-clause-nodes : goal.emitted-requires-clause-nodes
+emitted-requires-clause-nodes g c κs within =
+    let t = c.requires.analyzed in
+    let same = ap length c.parts-tokens.ensures.rows in
+    let h = tree_few c.args.source.now c.args.analysis.rows t.0 t.1.checked.fits (record { tree = t.1.checked.tree; shaped = t.1.checked.shaped; are = t.1.rows_are }) (c.rows_are_few.ensures t.0) in
+    omega arith
+
+pub emitted-requires-clause-coded : goal.emitted-requires-clause-coded
+emitted-requires-clause-coded g c κs within =
+    let text = c.args.source.now in
+    let t = c.requires.analyzed in
+    let rows = c.parts-tokens.ensures.rows ∙ t.1.rows_are in
+    let deep = c.in_ok-depths.ensures (ast t.0) t.1.checked.shaped rows in (
+      false,
+      t.0,
+      record {
+        checked = t.1.checked;
+        are = of_analysis text t.0 c.args.analysis c.parts-tokens.result.1 c.parts-tokens.result.2 t.1 c.parts-tokens.ensures.rows c.parts-tokens.ensures.names;
+        depths_are = c.deref-2.ensures.value ∙ deep;
+        framed = c.in_ok-frames.ensures.ok false t.0 t.1.checked rows (c.deref.ensures.value ∙ deep);
+      },
+    )
+
+pub code_table-requires : goal.code_table-requires
+code_table-requires g c =
+    let few = c.in_ok-words.ensures.few in
+    let same = ap length c.deref-3.ensures.value in
+    record { few = omega arith }
+
+pub returns-clause-frames : goal.returns-clause-frames
+returns-clause-frames g c =
+    let text = c.args.source.now in
+    let t = c.requires.analyzed in
+    let rows = c.parts-tokens.ensures.rows ∙ t.1.rows_are in
+    let deep = c.in_ok-depths.ensures (ast t.0) t.1.checked.shaped rows in
+    shows_frames text c.parts-tokens.result.0 c.parts-tokens.result.1 c.in_ok-frames.frames c.in_ok-frame_table.field-0.items t.0 t.1.checked (c.parts-tokens.ensures.tokens ∙ t.1.tokens_are) rows
+    (c.in_ok-frames.ensures.ok false t.0 t.1.checked rows (c.deref.ensures.value ∙ deep)) c.in_ok-frame_table.ensures
+
+pub returns-clause-code : goal.returns-clause-code
+returns-clause-code g c =
+    let text = c.args.source.now in
+    let t = c.requires.analyzed in
+    let rows = c.parts-tokens.ensures.rows ∙ t.1.rows_are in
+    let deep = c.in_ok-depths.ensures (ast t.0) t.1.checked.shaped rows in
+    let is = c.in_ok-words.ensures.ok false t.0
+    (record {
+      checked = t.1.checked;
+      are = of_analysis text t.0 c.args.analysis c.parts-tokens.result.1 c.parts-tokens.result.2 t.1 c.parts-tokens.ensures.rows c.parts-tokens.ensures.names;
+      depths_are = c.deref-2.ensures.value ∙ deep;
+      framed = c.in_ok-frames.ensures.ok false t.0 t.1.checked rows (c.deref.ensures.value ∙ deep);
+    }) in
+    shows_code text c.deref-3.result.now c.in_ok-code_table.field-0.items (ast t.0) is.0 (c.deref-3.ensures.value ∙ is.1) c.in_ok-code_table.ensures
+
+pub returns-in_err-frames-clause-stopped : goal.returns-in_err-frames-clause-stopped
+returns-in_err-frames-clause-stopped g c =
+    let text = c.args.source.now in
+    let t = c.requires.analyzed in
+    let rows = c.parts-tokens.ensures.rows ∙ t.1.rows_are in
+    let deep = c.in_ok-depths.ensures (ast t.0) t.1.checked.shaped rows in
+    handed_on (Stops ((p : Program) → ¬ IsVerdict false text (Accepted p)) text) c.from_residual-in_err-frames.result c.in_err-frames.field-0.0 c.from_residual-in_err-frames.ensures.1
+    (unaccepted text c.in_err-frames.field-0.0 (c.one_verdict.ensures false text) (c.in_err-frames.ensures.refused false t.0 t.1.checked rows (c.deref.ensures.value ∙ deep)))
+
+pub returns-in_err-words-clause-stopped : goal.returns-in_err-words-clause-stopped
+returns-in_err-words-clause-stopped g c =
+    let text = c.args.source.now in
+    let t = c.requires.analyzed in
+    let rows = c.parts-tokens.ensures.rows ∙ t.1.rows_are in
+    let deep = c.in_ok-depths.ensures (ast t.0) t.1.checked.shaped rows in
+    handed_on (Stops ((p : Program) → ¬ IsVerdict false text (Accepted p)) text) c.from_residual-in_err-words.result c.in_err-words.field-0.0 c.from_residual-in_err-words.ensures.1
+    (unaccepted text c.in_err-words.field-0.0 (c.one_verdict.ensures false text)
+    (c.in_err-words.ensures.refused false t.0
+    (record {
+      checked = t.1.checked;
+      are = of_analysis text t.0 c.args.analysis c.parts-tokens.result.1 c.parts-tokens.result.2 t.1 c.parts-tokens.ensures.rows c.parts-tokens.ensures.names;
+      depths_are = c.deref-2.ensures.value ∙ deep;
+      framed = c.in_ok-frames.ensures.ok false t.0 t.1.checked rows (c.deref.ensures.value ∙ deep);
+    })))
