@@ -15,7 +15,7 @@ parse_of w = map number_of (left_parse (tree_of w))
 abbrev pub rows_of : Worked → List Row
 rows_of w = post (program_of w)
 
--- what the rows of `fn main(): int { var x: int = 1; return x + (x = 3); }` mean: both names the variable of row 1, the function itself
+-- what the nodes of `fn main(): int { var x: int = 1; return x + (x = 3); }` mean, children before parents: both names the declaration of `x`, and the function itself
 abbrev pub meant_in_assigned : List (Option ℕ)
 meant_in_assigned = None ∷ None ∷ Some 1 ∷ Some 1 ∷ None ∷ None ∷ None ∷ None ∷ None ∷ Some 9 ∷ None ∷ []
 
