@@ -1,8 +1,9 @@
 //! What is told of the fronts of stretches, in which the state is known only once the states before the stretches are.
-ghost use Rattle.std.specs.Prelude.{◌≡◌, ◌<◌, ◌≤◌, ◌^◌, length, IfOk};
+ghost use Rattle.std.specs.Prelude.{◌≡◌, ℕ, ◌<◌, ◌≤◌, ◌^◌, List, length, IfOk};
 ghost use Rattle.list_cuts.specs.Cuts.{AreCuts};
 ghost use Rattle.par_lexer.specs.Known.{AreFunctions};
 ghost use Rattle.par_lexer.specs.Places.{state_before};
+ghost use Rattle.par_lexer.specs.Fronts.{AreReady};
 ghost use Rattle.par_lexer.specs.Stretches.{AreFrontsOf, ArePartsOf, AreStatesBefore, IsPart, TellsFront};
 
 use crate::functions::Functions;
@@ -14,24 +15,13 @@ use list_cuts::stretch_start;
 use par_passes::Passes;
 use std::alloc::{AllocError, Global};
 
-// The state behind a stretch, from the state before it.
-fn state_after(
-    functions: &Functions,
-    text: &[u8],
-    from: usize,
-    to: usize,
-    part: &Part,
-    state: u32,
-) -> u32
+// The state behind a stretch, by what the stretch tells, from the state before it.
+fn state_after(functions: &Functions, part: &Part, state: u32) -> u32
     requires functions { AreFunctions functions.now }
-    requires part { IsPart functions.now.compositions text.now from to part.now }
-    requires state { (state ≡ state_before text.now from) × (state < 16) }
-    ensures value { result ≡ state_before text.now to }
-    ensures below { result < 16 }
+    requires part { (text : List ℕ) × (from : ℕ) × (to : ℕ) × IsPart functions.now.compositions text from to part.now }
+    requires below { state < 16 }
+    ensures { (text : List ℕ) (from to : ℕ) → IsPart functions.now.compositions text from to part.now → state ≡ state_before text from → result ≡ state_before text to }
 {
-    // The contract alone speaks of these.
-    let _ = text;
-    let _ = (from, to);
     match part.behind {
         Behind::State(behind) => behind,
         Behind::Function(number) => functions.compositions.apply(number, state),
@@ -54,8 +44,7 @@ fn states_before(
     let mut state = u32::from(NOTHING);
     for c in 0..parts.len() {
         states.push(state)?;
-        let from = stretch_start(ends, c);
-        state = state_after(functions, text, from, ends[c], &parts[c], state);
+        state = state_after(functions, &parts[c], state);
     }
     Ok(states)
 }
@@ -87,30 +76,50 @@ fn plan_for(plan: Plan, len: usize) -> Plan {
     }
 }
 
-// What is told of the front of stretch number c.
-fn front_by_number(
-    alloc: Global,
-    functions: &Functions,
-    text: &[u8],
-    ends: &[usize],
-    parts: &[Part],
-    states: &[u32],
-    c: usize,
-) -> Result<Told, AllocError>
-    requires len { length text.now ≤ 2 ^ 24 }
-    requires functions { AreFunctions functions.now }
-    requires cuts { AreCuts ends.now (length text.now) }
-    requires parts { ArePartsOf functions.now.compositions text.now ends.now parts.now }
-    requires states { AreStatesBefore text.now ends.now parts.now states.now }
-    requires inside { c < length parts.now }
-    ensures { IfOk result (TellsFront text.now ends.now parts.now c) }
-{
-    let dfa = functions.compositions.dfa();
-    let mut point = Point {
-        place: stretch_start(ends, c),
-        state: states[c],
-    };
-    tell(alloc, dfa, text, &mut point, parts[c].known)
+// Stretches of a text: where each ends, what each tells by itself, and the state before each.
+#[derive(Clone, Copy)]
+struct Stretches<'a> {
+    functions: &'a Functions,
+    text: &'a [u8],
+    ends: &'a [usize],
+    parts: &'a [Part],
+    states: &'a [u32],
+}
+
+impl Stretches<'_> {
+    // What is told of the front of stretch number c.
+    fn front(&self, alloc: Global, c: usize) -> Result<Told, AllocError>
+        requires ready { AreReady self.now }
+        requires inside { c < length self.now.parts.now }
+        ensures { IfOk result (TellsFront self.now.text.now self.now.ends.now self.now.parts.now c) }
+    {
+        let dfa = self.functions.compositions.dfa();
+        let mut point = Point {
+            place: stretch_start(self.ends, c),
+            state: self.states[c],
+        };
+        tell(alloc, dfa, self.text, &mut point, self.parts[c].known)
+    }
+
+    // What is told of the front of each.
+    fn fronts(&self, crew: &impl Passes) -> Result<Vec<Told>, AllocError>
+        requires ready { AreReady self.now }
+        requires count { length self.now.parts.now < 2 ^ 62 }
+        ensures { IfOk result (λ v. AreFrontsOf self.now.text.now self.now.ends.now self.now.parts.now v.items) }
+    {
+        let alloc = crew.alloc();
+        let make = |c: u64| -> Result<Told, AllocError>
+            requires { AreReady self.now × (c < length self.now.parts.now) }
+            ensures { IfOk result (TellsFront self.entry.now.text.now self.entry.now.ends.now self.entry.now.parts.now c) }
+        { self.front(alloc, c as usize) };
+        let crew = Workers {
+            runtime: crew.runtime(),
+            alloc,
+            plan: plan_for(crew.plan(), count_bytes(self.ends, self.parts)),
+            gate: crew.gate(),
+        };
+        crew.bundles(self.parts.len(), &make)
+    }
 }
 
 // What is told of the front of each stretch.
@@ -128,19 +137,13 @@ pub(crate) fn fronts(
     requires parts { ArePartsOf functions.now.compositions text.now ends.now parts.now }
     ensures { IfOk result (λ v. AreFrontsOf text.now ends.now parts.now v.items) }
 {
-    let alloc = crew.alloc();
-    let states = states_before(alloc, functions, text, ends, parts)?;
-    let states = states.as_slice();
-    let make = |c: u64| -> Result<Told, AllocError>
-        requires { (length text.now ≤ 2 ^ 24) × AreFunctions functions.now × AreCuts ends.now (length text.now)
-            × ArePartsOf functions.now.compositions text.now ends.now parts.now × AreStatesBefore text.now ends.now parts.now states.now × (c < length parts.now) }
-        ensures { IfOk result (TellsFront text.entry.now ends.entry.now parts.entry.now c) }
-    { front_by_number(alloc, functions, text, ends, parts, states, c as usize) };
-    let crew = Workers {
-        runtime: crew.runtime(),
-        alloc,
-        plan: plan_for(crew.plan(), count_bytes(ends, parts)),
-        gate: crew.gate(),
+    let states = states_before(crew.alloc(), functions, text, ends, parts)?;
+    let stretches = Stretches {
+        functions,
+        text,
+        ends,
+        parts,
+        states: states.as_slice(),
     };
-    crew.bundles(parts.len(), &make)
+    stretches.fronts(crew)
 }

@@ -2,6 +2,7 @@
 ghost use Rattle.std.specs.Prelude.{◌≡◌, ◌<◌, ◌≤◌, ◌^◌, length, IfOk};
 ghost use Rattle.list_cuts.specs.Cuts.{AreCuts};
 ghost use Rattle.par_lexer.specs.Known.{AreFunctions};
+ghost use Rattle.state_monoid.specs.Numbering.{Numbering};
 ghost use Rattle.par_lexer.specs.Stretches.{AreFrontsOf, ArePartsOf, AreTokens, IsAdded, Tells};
 
 use crate::columns::Columns;
@@ -72,7 +73,6 @@ fn count_all(fronts: &[Told], parts: &[Part]) -> usize {
 // What is told of the whole text: front and part of each stretch, one behind the other, up to the first fault.
 fn join(
     alloc: Global,
-    functions: &Functions,
     text: &[u8],
     ends: &[usize],
     fronts: &[Told],
@@ -80,11 +80,9 @@ fn join(
 ) -> Result<Told, AllocError>
     requires cuts { AreCuts ends.now (length text.now) }
     requires fronts { AreFrontsOf text.now ends.now parts.now fronts.now }
-    requires parts { ArePartsOf functions.now.compositions text.now ends.now parts.now }
+    requires parts { (m : Numbering) × ArePartsOf m text.now ends.now parts.now }
     ensures { IfOk result (Tells text.now 0 (length text.now)) }
 {
-    // The contract alone speaks of it.
-    let _ = functions;
     let mut columns = Columns::with_capacity(alloc, count_all(fronts, parts))?;
     for c in 0..parts.len() {
         let part = &parts[c];
@@ -114,12 +112,5 @@ pub(crate) fn tell_by_stretches(
     let ends = ends.as_slice();
     let parts = parts(crew, functions, text, ends)?;
     let fronts = fronts(crew, functions, text, ends, parts.as_slice())?;
-    join(
-        alloc,
-        functions,
-        text,
-        ends,
-        fronts.as_slice(),
-        parts.as_slice(),
-    )
+    join(alloc, text, ends, fronts.as_slice(), parts.as_slice())
 }

@@ -65,18 +65,15 @@ fn part_from(
     alloc: Global,
     functions: &Functions,
     text: &[u8],
-    from: usize,
     point: Point,
     to: usize,
 ) -> Result<Part, AllocError>
     requires len { length text.now ≤ 2 ^ 24 }
     requires functions { AreFunctions functions.now }
-    requires places { (from ≤ point.place) × (point.place ≤ to) × (to ≤ length text.now) }
+    requires places { (point.place ≤ to) × (to ≤ length text.now) }
     requires state { point.state ≡ state_before text.now point.place }
-    ensures { IfOk result (IsPart functions.now.compositions text.now from to) }
+    ensures { IfOk result (λ part. (from : ℕ) → from ≤ point.place → IsPart functions.now.compositions text.now from to part) }
 {
-    // The contract alone speaks of it.
-    let _ = from;
     let dfa = functions.compositions.dfa();
     let known = point.place;
     let mut last = point;
@@ -103,7 +100,7 @@ fn make_part(
     ensures { IfOk result (IsPart functions.now.compositions text.now from to) }
 {
     match known_in(functions, text, from, to) {
-        Known::From(point) => part_from(alloc, functions, text, from, point, to),
+        Known::From(point) => part_from(alloc, functions, text, point, to),
         Known::Nowhere(number) => Ok(Part {
             known: to,
             told: Told::Tokens(Columns::new(alloc)),
