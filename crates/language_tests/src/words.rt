@@ -35,7 +35,7 @@ fn told<R: Threads + Sync>(
         plan: Plan::new(workers, 1).ok_or("in range")?,
         gate: &OpenGate,
     };
-    Ok(table_answer(&crew, file, Some(word))?)
+    Ok(table_answer(&crew, file, Some(word), false)?)
 }
 
 /// Words, and the places at which no sentence goes on.

@@ -1,5 +1,5 @@
 -- One thing is told of a grammar file, and of a word.
-use Rattle.std.proofs.Common.{◌≡◌, ◌∙◌, ◌<◌, ◌+◌, ◌++◌, ℕ, List, Option, Some, None, Result, Ok, Err, drop, refl, sym, ap, subst, arith}
+use Rattle.std.proofs.Common.{◌≡◌, ◌∙◌, ◌<◌, ◌+◌, ◌++◌, ℕ, List, Bool, true, false, Option, Some, None, Result, Ok, Err, drop, refl, sym, ap, subst, arith}
 use Rattle.std.proofs.lemmas.List.{take-append-drop}
 use Rattle.grammar_file.specs.Grammar.{Grammar, IsWellFormed}
 use Rattle.grammar_file.specs.Derivation.{IsSentence}
@@ -9,15 +9,16 @@ use Rattle.grammar_file.specs.FaultLines.{line_of_fault as line_of_grammar_fault
 use Rattle.grammar_file.specs.declared.file.GrammarFault.{GrammarFault}
 use Rattle.ll1_sets.specs.Predict.{IsLl1}
 use Rattle.llp_tables.specs.Lookback.{IsLlp}
-use Rattle.llp_tables.specs.Tables.{IsTableFault}
+use Rattle.llp_tables.specs.Tables.{AreTables, Entry, IsTableFault}
 use Rattle.llp_tables.specs.Pairs.{CountsPairs}
 use Rattle.llp_tables.specs.FaultLines.{line_of_fault}
 use Rattle.llp_tables.specs.declared.fault.TableFault.{TableFault}
 use Rattle.llp_wide.specs.Wide.{IsWideLlp}
-use Rattle.llp_wide.specs.WideEntries.{CountsTriples}
+use Rattle.llp_wide.specs.WideEntries.{AreWideTables, CountsTriples}
 use Rattle.llp_wide.specs.WideFaults.{IsWideFault, line_of_wide_fault}
 use Rattle.llp_wide.specs.declared.fault.WideFault.{WideFault}
 use Rattle.table_text.specs.Answers.{IsConflict, behind_one, behind_two, HasTables, with_one, with_two, CountsEntries, of_pairs, of_triples, IsGrammarAnswer, conflicting, sized, parsed, no_sentence, IsTableAnswer, no_grammar, of_grammar}
+use Rattle.table_text.specs.Entries.{ListsEntries, pair_lines, pairs, triple_lines, triples, unlisted}
 use Rattle.table_text.specs.Lines.{sizes, parse_line}
 use Rattle.table_text.specs.declared.answer.TableAnswer.{TableAnswer}
 use Rattle.table_text.specs.declared.answer.TableAnswer.TheVariants.{Tabled, NoGrammar, Conflict, Syntax}
@@ -44,6 +45,8 @@ pub record OneAnswer (g : Grammar) : Type 0 where
   pub wide_fault : (f h : WideFault) → IsWideFault g f → IsWideFault g h → f ≡ h
   pub no_wide_tables : (f : WideFault) → IsWideFault g f → IsLl1 g → IsWideLlp g → ⊥
   pub wide_count : (m n : ℕ) → CountsTriples g m → CountsTriples g n → m ≡ n
+  pub table : (entry other : ℕ → ℕ → Option Entry) → AreTables g entry → AreTables g other → (a b : ℕ) → entry a b ≡ other a b
+  pub wide_table : (entry other : ℕ → ℕ → ℕ → Option Entry) → AreWideTables g entry → AreWideTables g other → (z a b : ℕ) → entry z a b ≡ other z a b
 
 module _ (g : Grammar) (one : OneAnswer g) where
   not_two : {A : Type 0} → g.lookback ≡ 1 → g.lookback ≡ 2 → A
@@ -67,27 +70,35 @@ module _ (g : Grammar) (one : OneAnswer g) where
   one_count m n (of_triples e count) (of_pairs o other) = not_two o e
   one_count m n (of_triples e count) (of_triples o other) = one.wide_count m n count other
 
-  of_no_word : (a b : TableAnswer) → IsGrammarAnswer g None a → IsGrammarAnswer g None b → a ≡ b
-  of_no_word _ _ (conflicting {line = l} k) (conflicting {line = m} o) = ap Conflict (one_conflict l m k o)
-  of_no_word _ _ (conflicting {line = l} k) (sized t n) = absurd (never_tables l k t)
-  of_no_word _ _ (sized t n) (conflicting {line = l} k) = absurd (never_tables l k t)
-  of_no_word _ _ (sized {entries = m} t k) (sized {entries = n} o j) = ap (λ n. Tabled (sizes g n)) (one_count m n k j)
+  one_list : (entries : Bool) (l m : List ℕ) → ListsEntries g entries l → ListsEntries g entries m → l ≡ m
+  one_list false _ _ unlisted unlisted = refl
+  one_list true _ _ (pairs entry e t) (pairs other o u) = λ i. pair_lines g (λ a b. one.table entry other t u a b i)
+  one_list true _ _ (pairs entry e t) (triples other o u) = not_two e o
+  one_list true _ _ (triples entry e t) (pairs other o u) = not_two o e
+  one_list true _ _ (triples entry e t) (triples other o u) = λ i. triple_lines g (λ z a b. one.wide_table entry other t u z a b i)
 
-  of_word : (text : List ℕ) (a b : TableAnswer) → IsGrammarAnswer g (Some text) a → IsGrammarAnswer g (Some text) b → a ≡ b
-  of_word text _ _ (conflicting {line = l} k) (conflicting {line = m} o) = ap Conflict (one_conflict l m k o)
-  of_word text _ _ (conflicting {line = l} k) (parsed t n p) = absurd (never_tables l k t)
-  of_word text _ _ (conflicting {line = l} k) (no_sentence t p) = absurd (never_tables l k t)
-  of_word text _ _ (parsed t n p) (conflicting {line = l} k) = absurd (never_tables l k t)
-  of_word text _ _ (parsed {ps = ps} {entries = m} t k p) (parsed {ps = qs} {entries = n} o j q) =
-      (λ i. Tabled (sizes g (one_count m n k j i) ++ parse_line (q.1 ps p.0 i)))
-  of_word text _ _ (parsed {ps = ps} t n p) (no_sentence {at = at} o q) = absurd (never_both g _ at (ps, p.0) q)
-  of_word text _ _ (no_sentence t p) (conflicting {line = l} k) = absurd (never_tables l k t)
-  of_word text _ _ (no_sentence {at = at} t p) (parsed {ps = ps} o n q) = absurd (never_both g _ at (ps, q.0) p)
-  of_word text _ _ (no_sentence {at = i} t p) (no_sentence {at = j} o q) = ap Syntax (one_place g _ i j p q)
+  of_no_word : (entries : Bool) (a b : TableAnswer) → IsGrammarAnswer g entries None a → IsGrammarAnswer g entries None b → a ≡ b
+  of_no_word entries _ _ (conflicting {line = l} k) (conflicting {line = m} o) = ap Conflict (one_conflict l m k o)
+  of_no_word entries _ _ (conflicting {line = l} k) (sized t n h) = absurd (never_tables l k t)
+  of_no_word entries _ _ (sized t n h) (conflicting {line = l} k) = absurd (never_tables l k t)
+  of_no_word entries _ _ (sized {count = m} {lines = l} t k h) (sized {count = n} {lines = r} o j e) =
+      (λ i. Tabled (sizes g (one_count m n k j i) ++ one_list entries l r h e i))
 
-  one_answer : (word : Option (List ℕ)) (a b : TableAnswer) → IsGrammarAnswer g word a → IsGrammarAnswer g word b → a ≡ b
-  one_answer None a b k m = of_no_word a b k m
-  one_answer (Some text) a b k m = of_word text a b k m
+  of_word : (entries : Bool) (text : List ℕ) (a b : TableAnswer) → IsGrammarAnswer g entries (Some text) a → IsGrammarAnswer g entries (Some text) b → a ≡ b
+  of_word entries text _ _ (conflicting {line = l} k) (conflicting {line = m} o) = ap Conflict (one_conflict l m k o)
+  of_word entries text _ _ (conflicting {line = l} k) (parsed t n h p) = absurd (never_tables l k t)
+  of_word entries text _ _ (conflicting {line = l} k) (no_sentence t p) = absurd (never_tables l k t)
+  of_word entries text _ _ (parsed t n h p) (conflicting {line = l} k) = absurd (never_tables l k t)
+  of_word entries text _ _ (parsed {ps = ps} {lines = l} {count = m} t k h p) (parsed {ps = qs} {lines = r} {count = n} o j e q) =
+      (λ i. Tabled (sizes g (one_count m n k j i) ++ one_list entries l r h e i ++ parse_line (q.1 ps p.0 i)))
+  of_word entries text _ _ (parsed {ps = ps} t n h p) (no_sentence {at = at} o q) = absurd (never_both g _ at (ps, p.0) q)
+  of_word entries text _ _ (no_sentence t p) (conflicting {line = l} k) = absurd (never_tables l k t)
+  of_word entries text _ _ (no_sentence {at = at} t p) (parsed {ps = ps} o n h q) = absurd (never_both g _ at (ps, q.0) p)
+  of_word entries text _ _ (no_sentence {at = i} t p) (no_sentence {at = j} o q) = ap Syntax (one_place g _ i j p q)
+
+  one_answer : (entries : Bool) (word : Option (List ℕ)) (a b : TableAnswer) → IsGrammarAnswer g entries word a → IsGrammarAnswer g entries word b → a ≡ b
+  one_answer entries None a b k m = of_no_word entries a b k m
+  one_answer entries (Some text) a b k m = of_word entries text a b k m
 
 -- ---- a file
 
@@ -120,10 +131,10 @@ module _ (bytes : List ℕ) (one : (a b : Result Grammar GrammarFault) → Spell
   not_both : {A : Type 0} (g : Grammar) (f : GrammarFault) → Spells bytes (Ok g) → Spells bytes (Err f) → A
   not_both g f is other = let both : Ok g ≡ Err f = one (Ok g) (Err f) is other in cc
 
-  pub one_file_answer : (word : Option (List ℕ)) (a b : TableAnswer) → IsTableAnswer bytes word a → IsTableAnswer bytes word b → a ≡ b
-  one_file_answer word _ _ (no_grammar f is) (no_grammar h other) = ap (λ f. NoGrammar (line_of_grammar_fault f)) (same_fault f h is other)
-  one_file_answer word _ b (no_grammar f is) (of_grammar g other t) = not_both g f other is
-  one_file_answer word a _ (of_grammar g is t) (no_grammar f other) = not_both g f is other
-  one_file_answer word a b (of_grammar g is t) (of_grammar h other s) =
+  pub one_file_answer : (entries : Bool) (word : Option (List ℕ)) (a b : TableAnswer) → IsTableAnswer bytes entries word a → IsTableAnswer bytes entries word b → a ≡ b
+  one_file_answer entries word _ _ (no_grammar f is) (no_grammar h other) = ap (λ f. NoGrammar (line_of_grammar_fault f)) (same_fault f h is other)
+  one_file_answer entries word _ b (no_grammar f is) (of_grammar g other t) = not_both g f other is
+  one_file_answer entries word a _ (of_grammar g is t) (no_grammar f other) = not_both g f is other
+  one_file_answer entries word a b (of_grammar g is t) (of_grammar h other s) =
       let sound = spelled bytes g formed is in
-      one_answer g (answer g sound.0 sound.1) word a b t (subst (λ k. IsGrammarAnswer k word b) (same_grammar g h is other) s)
+      one_answer g (answer g sound.0 sound.1) entries word a b t (subst (λ k. IsGrammarAnswer k entries word b) (same_grammar g h is other) s)

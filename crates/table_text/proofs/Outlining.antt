@@ -1,5 +1,5 @@
 -- The outlines of pieces tell a word's stacks, and the productions that are written for its tokens are its left parse.
-use Rattle.std.proofs.Common.{◌≡◌, ◌∙◌, ℕ, zero, suc, ◌+◌, ◌-◌, ◌<◌, List, [], ◌∷◌, ◌++◌, length, take, Bool, true, false, Option, Some, None, get_or, slice_get, option_map, option_and_then, flat_map, refl, sym, ap, ap₂, subst, arith, append_assoc, append-nil, length-append}
+use Rattle.std.proofs.Common.{◌≡◌, ◌∙◌, ℕ, zero, suc, ◌+◌, ◌-◌, ◌<◌, List, [], ◌∷◌, ◌++◌, length, take, Bool, true, false, Option, Some, None, get_or, slice_get, option_map, option_and_then, flat_map, refl, sym, ap, ap₂, subst, arith, append_assoc, length-append}
 use Rattle.std.proofs.lemmas.Bool.{true≢false}
 use Rattle.std.proofs.lemmas.Option.{none-some, same_Some}
 use Rattle.grammar_file.specs.declared.symbols.Symbol.{Symbol}
@@ -7,16 +7,16 @@ use Rattle.grammar_file.specs.declared.symbols.Symbol.TheVariants.{Terminal, Non
 use Rattle.grammar_file.specs.Grammar.{Grammar, IsWellFormed, end_mark}
 use Rattle.grammar_file.specs.Drive.{Reads, first_stack}
 use Rattle.grammar_file.specs.SyntaxPlace.{ended}
-use Rattle.grammar_file.specs.Laws.Drives.{drives_of_first, first_of_drives, reads_above, reads_below, reads_first, ReadsFirst}
+use Rattle.grammar_file.specs.Laws.Drives.{reads_below, reads_first, ReadsFirst}
 use Rattle.grammar_file.specs.Laws.Words.{same_tail, terminal-nonterminal, same_head}
 use Rattle.ll1_sets.specs.Laws.LeftRecursion.{reached_word}
-use Rattle.ll1_sets.specs.Laws.Ll1.{IsReached, reads_same}
+use Rattle.ll1_sets.specs.Laws.Ll1.{IsReached}
 use Rattle.ll1_sets.specs.Predict.{IsFirst, IsLl1}
 use Rattle.llp_tables.specs.Lookback.{IsLookback, IsPiece}
-use Rattle.llp_tables.specs.LookbackTable.{HasLookback}
+use Rattle.llp_tables.specs.LookbackTable.{HasLookback, lookback_of}
 use Rattle.llp_tables.specs.Laws.LookbackBounds.{lookback_in_range}
-use Rattle.llp_tables.specs.Tables.{Entry}
-use Rattle.llp_wide.specs.Wide.{IsWideLookback}
+use Rattle.llp_tables.specs.Tables.{Entry, HasEntry}
+use Rattle.llp_wide.specs.Wide.{HasWideEntry, IsWideLookback}
 use Rattle.llp_wide.specs.WideLookbacks.{ClosedStack, HasWideLookback, wide_lookback_of}
 use Rattle.glue_summary.specs.declared.behind.Behind.{Behind}
 use Rattle.glue_summary.specs.declared.fault.ParseFault.TheVariants.{Syntax}
@@ -25,6 +25,7 @@ use Rattle.glue_summary.specs.Pieces.{Pieces, ArePieces, IsClosedBehind, at_begi
 use Rattle.glue_summary.specs.Stretch.{AreMet, IsGlued, IsGlueFault, ended_by, entries_of, start_of}
 use Rattle.table_text.specs.Ahead.{IsAhead, opens_at, opens_behind}
 use Rattle.table_text.specs.ByLookback.{AreSetsOf}
+use Rattle.table_text.specs.Listed.{HasEntryBehind, two_before}
 use Rattle.table_text.specs.Members.{Members, AreMembers, members_of, member_behind}
 use Rattle.table_text.specs.Outlines.{AreOutlines, outline_by, outline_end, outlines_of}
 use Rattle.table_text.specs.Readings.{AreWritten, IsWritten}
@@ -32,6 +33,7 @@ use Rattle.table_text.specs.declared.ahead.Ahead.{Ahead}
 use Rattle.table_text.specs.declared.lookback.Sets.{Sets}
 use Rattle.table_text.specs.declared.lookback.Sets.TheVariants as sets
 use Rattle.table_text.specs.declared.outlines.Outlines.{Outlines}
+use Rattle.table_text.proofs.OnePiece.{piece_of_reading, same_piece}
 
 -- ---- the members, by either look-back
 
@@ -39,12 +41,12 @@ pub sets_ll1 : (g : Grammar) (s : Sets) → AreSetsOf g s → IsLl1 g
 sets_ll1 g (sets.One t) h = h.1.ll1
 sets_ll1 g (sets.Two t) h = h.1.ll1
 
-wide_some : (g : Grammar) (z a b : ℕ) (w : Option ClosedStack) (xs : List Symbol) → HasWideLookback g z a b w → option_map (λ (c : ClosedStack). c.closes) w ≡ Some xs
+pub wide_some : (g : Grammar) (z a b : ℕ) (w : Option ClosedStack) (xs : List Symbol) → HasWideLookback g z a b w → option_map (λ (c : ClosedStack). c.closes) w ≡ Some xs
     → IsWideLookback g z a b xs × ((beta : List Symbol) → IsWideLookback g z a b beta → beta ≡ xs)
 wide_some g z a b None xs h e = absurd (none-some xs e)
 wide_some g z a b (Some c) xs h e = let same : c.closes ≡ xs = same_Some c.closes xs e in (subst (IsWideLookback g z a b) same h.1, λ beta k. h.2 beta k ∙ same)
 
-wide_none : (g : Grammar) (z a b : ℕ) (w : Option ClosedStack) → HasWideLookback g z a b w → option_map (λ (c : ClosedStack). c.closes) w ≡ None → (beta : List Symbol) → ¬ IsWideLookback g z a b beta
+pub wide_none : (g : Grammar) (z a b : ℕ) (w : Option ClosedStack) → HasWideLookback g z a b w → option_map (λ (c : ClosedStack). c.closes) w ≡ None → (beta : List Symbol) → ¬ IsWideLookback g z a b beta
 wide_none g z a b None h e = h
 wide_none g z a b (Some c) h e = absurd (none-some c.closes (sym e))
 
@@ -65,18 +67,6 @@ module _ (g : Grammar) (within : (z a b : ℕ) (beta : List Symbol) → IsWideLo
         only = λ k b closes e beta m. (wide_some g k.before_last k.last b (wide_lookback_of t k.before_last k.last b) closes (h.1.lookbacks k.before_last k.last b) e).1 beta (closed k b beta m);
         none = λ k b e beta m. wide_none g k.before_last k.last b (wide_lookback_of t k.before_last k.last b) (h.1.lookbacks k.before_last k.last b) e beta (closed k b beta m);
       }
-
--- ---- pieces and what is read
-
-module _ (g : Grammar) (b : ℕ) where
-  piece_of_reading : (closes opens : List Symbol) (ps : List ℕ) → Reads g b ps closes opens → IsPiece g b closes opens ps
-  piece_of_reading closes opens ps h = first_of_drives g (b ∷ []) ps closes opens (ps, [], opens, sym (append-nil ps), h, (refl, refl))
-
-  reading_of_piece : (closes opens : List Symbol) (ps : List ℕ) → IsPiece g b closes opens ps → Reads g b ps closes opens
-  reading_of_piece closes opens ps h =
-      let d = drives_of_first g (b ∷ []) ps closes opens h in
-      let e : d.0 ≡ ps = sym (d.3 ∙ (ap (λ (x : List ℕ). d.0 ++ x) d.5.0 ∙ append-nil d.0)) in
-      subst (λ (x : List ℕ). Reads g b x closes opens) e (subst (Reads g b d.0 closes) d.5.1 d.4)
 
 last_item : {A : Type 0} (xs : List A) (x : A) → slice_get (xs ++ x ∷ []) (length (xs ++ x ∷ []) - 1) ≡ Some x
 last_item {A} xs x =
@@ -114,11 +104,14 @@ module _ (g : Grammar) (well : IsWellFormed g) (o : Outlines) (are : AreOutlines
       let marked = within_marks ahead.first.items a (h.sets.0.complete a f) in
       h.opens a (subst (λ (n : ℕ). a < n) h.sets.0.len marked) ps below left reached reads
 
+  -- something is known where b comes next
+  pub ahead_there : (a b : ℕ) (closes : List Symbol) → IsLookback g a b closes → b < length o.aheads.items
+  ahead_there a b closes h = subst (λ (n : ℕ). b < n) (sym are.aheads.count) (lookback_in_range g well a b closes h).1
+
   -- a member leads to b and what its last symbol leaves
   outline_piece : (a b : ℕ) (closes : List Symbol) → IsLookback g a b closes → (ps : List ℕ) × IsPiece g b closes (Opens b closes) ps
   outline_piece a b closes h =
-      let range = lookback_in_range g well a b closes h in
-      let within : b < length o.aheads.items = subst (λ (n : ℕ). b < n) (sym are.aheads.count) range.1 in
+      let within : b < length o.aheads.items = ahead_there a b closes h in
       let begins = h.2 in
       let above : List Symbol = begins.0 in
       let last : Symbol = begins.1 in
@@ -131,19 +124,6 @@ module _ (g : Grammar) (well : IsWellFormed g) (o : Outlines) (are : AreOutlines
       let same : opens_behind (Some ahead.0) (Some last) ≡ Opens b closes = ap₂ opens_behind (sym ahead.1) (sym (ap (λ (w : List Symbol). slice_get w (length w - 1)) begins.2 ∙ last_item above last)) in
       let reads : Reads g b (begins.3.0 ++ r.ps1) closes r.left = subst (λ (w : List Symbol). Reads g b (begins.3.0 ++ r.ps1) w r.left) (sym begins.2) (reads_below g b begins.3.0 r.ps1 above (last ∷ []) r.left begins.3.1 r.reads) in
       (begins.3.0 ++ r.ps1, piece_of_reading g b closes (Opens b closes) (begins.3.0 ++ r.ps1) (subst (λ (w : List Symbol). Reads g b (begins.3.0 ++ r.ps1) closes w) (left ∙ same) reads))
-
-  -- so something is known where b comes next
-  pub ahead_there : (z a b : ℕ) (closes : List Symbol) → Member z a b ≡ Some closes → slice_get o.aheads.items b ≡ None → ⊥
-  ahead_there z a b closes is none =
-      let range = lookback_in_range g well a b closes (are.members.some z a b closes is) in
-      let found = item_in o.aheads.items b (subst (λ (n : ℕ). b < n) (sym are.aheads.count) range.1) in
-      none-some found.0 (sym none ∙ found.1)
-
-  -- productions of two pieces that close one member are the same
-  same_productions : (a b : ℕ) (closes u v : List Symbol) (qs rs : List ℕ) → IsLookback g a b closes → IsPiece g b closes u qs → IsPiece g b closes v rs → qs ≡ rs
-  same_productions a b closes u v qs rs h one other =
-      let stands : IsReached g (closes ++ h.0) = (h.1.0, h.1.1 ++ a ∷ [], h.1.2.reaches) in
-      (reads_same g are.members.ll1 b qs rs (closes ++ h.0) (u ++ h.0) (v ++ h.0) stands (reads_above g b qs closes u h.0 (reading_of_piece g b closes u qs one)) (reads_above g b rs closes v h.0 (reading_of_piece g b closes v rs other))).0
 
   -- ---- the pieces of which these are the outlines
 
@@ -186,6 +166,26 @@ module _ (g : Grammar) (well : IsWellFormed g) (o : Outlines) (are : AreOutlines
         opens = λ k b e h. (piece_is b (member_behind Member k b) (made k.before_last k.last b) e h).3;
         none = λ k b h beta m. are.members.none k b (piece_none b (member_behind Member k b) (made k.before_last k.last b) h) beta m;
       }
+
+  -- ---- they are the entries of the grammar's tables
+
+  pair_made : (a b : ℕ) (m : Option (List Symbol)) (make : Made b m) → HasLookback g a b m → HasEntry g a b (piece_by b m make)
+  unfolding piece_by
+  pair_made a b None make h = h
+  pair_made a b (Some closes) make h = record { member = h.0; only = h.1; piece = (make closes refl).1 }
+
+  triple_made : (z a b : ℕ) (w : Option ClosedStack) (make : Made b (option_map (λ (c : ClosedStack). c.closes) w)) → HasWideLookback g z a b w → HasWideEntry g z a b (piece_by b (option_map (λ (c : ClosedStack). c.closes) w) make)
+  unfolding piece_by
+  triple_made z a b None make h = h
+  triple_made z a b (Some c) make h = record { member = h.1; only = h.2; piece = (make c.closes refl).1 }
+
+  entry_made : (s : Sets) → AreSetsOf g s → (z a b : ℕ) (make : Made b (members_of s z a b)) → HasEntryBehind g s (two_before z a) b (piece_by b (members_of s z a b) make)
+  entry_made (sets.One t) h z a b make = pair_made a b (lookback_of t a b) make (h.1.lookbacks a b)
+  entry_made (sets.Two t) h z a b make = triple_made z a b (wide_lookback_of t z a b) make (h.1.lookbacks z a b)
+
+  pub whole_entries : (z a b : ℕ) → HasEntryBehind g o.sets (two_before z a) b (whole_pieces z a b)
+  unfolding whole_pieces
+  whole_entries z a b = entry_made o.sets are.sets z a b (made z a b)
 
   -- ---- their stacks are those of the outlines
 
@@ -233,7 +233,7 @@ module _ (g : Grammar) (well : IsWellFormed g) (o : Outlines) (are : AreOutlines
   one_written : (b : ℕ) (m : Option (List Symbol)) (make : Made b m) (qs : List ℕ) → ((closes : List Symbol) → m ≡ Some closes → (a : ℕ) × IsLookback g a b closes) → IsWritten g b m qs → qs ≡ productions_of (piece_by b m make)
   unfolding piece_by
   one_written b None make qs member h = h
-  one_written b (Some closes) make qs member h = let k = member closes refl in same_productions k.0 b closes h.0 (Opens b closes) qs (make closes refl).0 k.1 h.1 (make closes refl).1
+  one_written b (Some closes) make qs member h = let k = member closes refl in (same_piece g b are.members.ll1 k.0 closes h.0 (Opens b closes) qs (make closes refl).0 k.1 h.1 (make closes refl).1).0
 
   all_written : (tokens : List ℕ) (k : Behind) (ps : List ℕ) → AreWritten g Member k tokens ps → ps ≡ flat_map productions_of (Whole k tokens)
   unfolding whole_pieces

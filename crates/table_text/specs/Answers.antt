@@ -1,5 +1,6 @@
--- The answer to a grammar file, and to a word: the sizes of the grammar and of its tables, and the word's left parse, or why there are none.
-use Rattle.std.specs.Prelude.{◌≡◌, ℕ, List, ◌++◌, Option, Some, None, Ok, Err}
+-- The answer to a grammar file, and to a word: the sizes of the grammar and of its tables, the lines of the entries where they are asked for, and the
+-- left parse of the word, or why there are none.
+use Rattle.std.specs.Prelude.{◌≡◌, ℕ, List, ◌++◌, Bool, Option, Some, None, Ok, Err}
 use Rattle.grammar_file.specs.Grammar.{Grammar}
 use Rattle.grammar_file.specs.Spelling.{Spells}
 use Rattle.grammar_file.specs.SyntaxPlace.{IsSyntaxPlace}
@@ -16,6 +17,7 @@ use Rattle.llp_wide.specs.WideEntries.{CountsTriples}
 use Rattle.llp_wide.specs.WideFaults.{IsWideFault, line_of_wide_fault}
 use Rattle.llp_wide.specs.declared.fault.WideFault.{WideFault}
 use Rattle.glue_summary.specs.Parse.{IsParse}
+use Rattle.table_text.specs.Entries.{ListsEntries}
 use Rattle.table_text.specs.Lines.{sizes, parse_line}
 use Rattle.table_text.specs.Tokens.{tokens_of}
 use Rattle.table_text.specs.declared.answer.TableAnswer.{TableAnswer}
@@ -36,17 +38,17 @@ pub data CountsEntries (g : Grammar) (entries : ℕ) : Type 0 where
   of_pairs : g.lookback ≡ 1 → CountsPairs g entries → CountsEntries g entries
   of_triples : g.lookback ≡ 2 → CountsTriples g entries → CountsEntries g entries
 
--- of a grammar, and of a word by its spelling
-pub data IsGrammarAnswer (g : Grammar) : Option (List ℕ) → TableAnswer → Type 0 where
+-- of a grammar, with its entries or without them, and of a word by its spelling
+pub data IsGrammarAnswer (g : Grammar) (entries : Bool) : Option (List ℕ) → TableAnswer → Type 0 where
   -- a conflict comes before all that is said of a word
-  conflicting : {word : Option (List ℕ)} {line : List ℕ} → IsConflict g line → IsGrammarAnswer g word (Conflict line)
-  sized : {entries : ℕ} → HasTables g → CountsEntries g entries → IsGrammarAnswer g None (Tabled (sizes g entries))
-  parsed : {text ps : List ℕ} {entries : ℕ} → HasTables g → CountsEntries g entries → IsParse g (tokens_of g text) (Ok ps)
-      → IsGrammarAnswer g (Some text) (Tabled (sizes g entries ++ parse_line ps))
-  no_sentence : {text : List ℕ} {at : ℕ} → HasTables g → IsSyntaxPlace g (tokens_of g text) at → IsGrammarAnswer g (Some text) (Syntax at)
+  conflicting : {word : Option (List ℕ)} {line : List ℕ} → IsConflict g line → IsGrammarAnswer g entries word (Conflict line)
+  sized : {count : ℕ} {lines : List ℕ} → HasTables g → CountsEntries g count → ListsEntries g entries lines → IsGrammarAnswer g entries None (Tabled (sizes g count ++ lines))
+  parsed : {text ps lines : List ℕ} {count : ℕ} → HasTables g → CountsEntries g count → ListsEntries g entries lines → IsParse g (tokens_of g text) (Ok ps)
+      → IsGrammarAnswer g entries (Some text) (Tabled (sizes g count ++ lines ++ parse_line ps))
+  no_sentence : {text : List ℕ} {at : ℕ} → HasTables g → IsSyntaxPlace g (tokens_of g text) at → IsGrammarAnswer g entries (Some text) (Syntax at)
 
--- of a file, and of a word by its spelling
-pub data IsTableAnswer (bytes : List ℕ) : Option (List ℕ) → TableAnswer → Type 0 where
+-- of a file, with the entries of its grammar or without them, and of a word by its spelling
+pub data IsTableAnswer (bytes : List ℕ) (entries : Bool) : Option (List ℕ) → TableAnswer → Type 0 where
   -- the file's first fault comes before all else
-  no_grammar : {word : Option (List ℕ)} (fault : GrammarFault) → Spells bytes (Err fault) → IsTableAnswer bytes word (NoGrammar (line_of_grammar_fault fault))
-  of_grammar : {word : Option (List ℕ)} {answer : TableAnswer} (g : Grammar) → Spells bytes (Ok g) → IsGrammarAnswer g word answer → IsTableAnswer bytes word answer
+  no_grammar : {word : Option (List ℕ)} (fault : GrammarFault) → Spells bytes (Err fault) → IsTableAnswer bytes entries word (NoGrammar (line_of_grammar_fault fault))
+  of_grammar : {word : Option (List ℕ)} {answer : TableAnswer} (g : Grammar) → Spells bytes (Ok g) → IsGrammarAnswer g entries word answer → IsTableAnswer bytes entries word answer

@@ -1,4 +1,5 @@
 pub mod Lines
+pub mod Entries
 pub mod Tokens
 pub mod Answers
 pub mod ByLookback
@@ -6,3 +7,4 @@ pub mod Members
 pub mod Ahead
 pub mod Outlines
 pub mod Readings
+pub mod Listed

@@ -5,6 +5,7 @@ use Rattle.grammar_file.specs.Grammar.{Grammar, end_mark}
 use Rattle.llp_tables.specs.Tables.{Entry}
 use Rattle.glue_summary.specs.Pieces.{Pieces}
 use Rattle.table_text.specs.Ahead.{AreAheads, opens_at}
+use Rattle.table_text.specs.ByLookback.{AreSetsOf}
 use Rattle.table_text.specs.Members.{AreMembers, members_of}
 use Rattle.table_text.specs.declared.outlines.Outlines.{Outlines}
 
@@ -20,6 +21,7 @@ outline_end o = o.end
 
 -- those of a grammar
 pub record AreOutlines (g : Grammar) (o : Outlines) : Type 0 where
+  pub sets : AreSetsOf g o.sets
   pub members : AreMembers g (members_of o.sets)
   pub aheads : AreAheads g o.aheads.items
   pub end_is : o.end ≡ end_mark g

@@ -36,7 +36,7 @@ impl Text {
 /// The answer to a grammar file, and to a word.
 #[derive(Drop)]
 pub enum TableAnswer {
-    /// The lines of the sizes of the grammar and of its tables, and of the word's left parse.
+    /// The lines of the sizes of the grammar and of its tables, of the entries, and of the word's left parse.
     Tabled(Text),
     /// The file spells no grammar: the line of its first fault, without a line feed.
     NoGrammar(Text),

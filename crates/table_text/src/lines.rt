@@ -1,9 +1,11 @@
 // The lines that are printed of a grammar, its tables and a parse.
 
 ghost use Rattle.std.specs.Prelude.{◌≡◌, ◌++◌, codes, decimal, IfOk};
+ghost use Rattle.table_text.specs.Entries.{spaced_names};
 ghost use Rattle.table_text.specs.Lines.{counted, parse_line, sizes, spaced};
 
-use grammar_file::Grammar;
+use grammar_file::{Grammar, Symbol};
+use llp_tables::push_name;
 use std::alloc::{AllocError, Global};
 
 /// Writes a line with a name and a number behind the text.
@@ -31,11 +33,30 @@ fn push_number(alloc: Global, text: &mut Vec<u8>, number: u16) -> Result<(), All
 }
 
 /// Writes the numbers behind the text, each behind a space.
-fn push_spaced(alloc: Global, text: &mut Vec<u8>, numbers: &[u16]) -> Result<(), AllocError>
+pub(crate) fn push_spaced(
+    alloc: Global,
+    text: &mut Vec<u8>,
+    numbers: &[u16],
+) -> Result<(), AllocError>
     ensures { IfOk result (λ _. text.new.items ≡ text.old.items ++ spaced numbers.now) }
 {
     for number in numbers {
         push_number(alloc, text, *number)?;
+    }
+    Ok(())
+}
+
+/// Writes the symbols' names behind the text, each behind a space.
+pub(crate) fn push_names(
+    text: &mut Vec<u8>,
+    grammar: &Grammar,
+    symbols: &[Symbol],
+) -> Result<(), AllocError>
+    ensures { IfOk result (λ _. text.new.items ≡ text.old.items ++ spaced_names grammar.now symbols.now) }
+{
+    for symbol in symbols {
+        text.push(b' ')?;
+        push_name(text, grammar, *symbol)?;
     }
     Ok(())
 }

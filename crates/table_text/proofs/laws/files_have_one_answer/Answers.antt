@@ -10,4 +10,6 @@ returns c = λ bytes. one_file_answer bytes (c.files_spell_one_answer.ensures.on
       wide_fault = c.wide_grammars_have_one_answer.ensures.fault g;
       no_wide_tables = c.wide_grammars_have_one_answer.ensures.no_tables g formed reduced;
       wide_count = c.wide_grammars_have_one_answer.ensures.count g;
+      table = c.tables_are_unique.ensures.pairs g;
+      wide_table = c.tables_are_unique.ensures.triples g;
     })

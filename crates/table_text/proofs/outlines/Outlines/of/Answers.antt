@@ -7,6 +7,7 @@ aheads_of-requires c = record { ll1 = sets_ll1 c.args.grammar.now c.args.sets c.
 
 pub returns : goal.returns
 returns c = record {
+  sets = c.requires;
   members = sets_have_members c.args.grammar.now (c.one_terminal_serves_two.ensures.within c.args.grammar.now) (c.wide_tables_make_the_parse.ensures.closed c.args.grammar.now) c.args.sets c.requires;
   aheads = c.in_ok-aheads.ensures;
   end_is = omega (arith, c.width_of.ensures, c.saturating_sub.ensures);
