@@ -1,6 +1,7 @@
--- The arrays of the compiler's passes as tables of text. Lexemes, terminals, productions and left parses are named as by Aho, Lam, Sethi and Ullman;
--- the kinds of nodes as the source language's grammar and its operators are written; registers, spills and frames as in `source_meaning`, and an
--- instruction as in the listings of `rv_text`. Texts of any length stand last, where no column is padded to them: so a table is linear in what it shows.
+-- The arrays of the compiler's passes as columns, and as tables of text. Lexemes, terminals, productions and left parses are named as by Aho, Lam, Sethi
+-- and Ullman; the kinds of nodes as the source language's grammar and its operators are written; registers, spills and frames as in `source_meaning`, and
+-- an instruction as in the listings of `rv_text`. The first column has the numbers of the lines. Texts of any length stand last, where no column is padded
+-- to them: so a table is linear in what it shows.
 use Rattle.std.specs.Prelude.{ℕ, zero, suc, ◌+◌, ◌*◌, Bool, true, false, List, [], ◌∷◌, ◌++◌, length, take, drop, map, filter, flat_map, Option, Some, None, unwrap_or, slice_index_or, codes, decimal, if◌then◌else◌}
 use Rattle.std.specs.List.{range_with_len}
 use Rattle.std.specs.Option.{option_map_or}
@@ -50,13 +51,13 @@ abbrev pub lexeme_of : List ℕ → TokenRow → List ℕ
 lexeme_of text t = take t.length (drop t.start text)
 
 -- each token: its terminal as the grammar's text names it, the place of its first byte, how many bytes it has, and these bytes
-abbrev pub token_table : List ℕ → List TokenRow → List ℕ
-token_table text ts = table_text
-    (places (codes "token") (length ts)
+abbrev pub token_columns : List ℕ → List TokenRow → List Column
+token_columns text ts =
+    places (codes "token") (length ts)
     ∷ texts (codes "terminal") (map (λ t. terminal_name t.terminal) ts)
     ∷ numbers (codes "start") (map (λ t. t.start) ts)
     ∷ numbers (codes "length") (map (λ t. t.length) ts)
-    ∷ texts (codes "text") (map (lexeme_of text) ts) ∷ [])
+    ∷ texts (codes "text") (map (lexeme_of text) ts) ∷ []
 
 -- ---- the left parse
 
@@ -77,11 +78,11 @@ abbrev pub rule_text : Grammar → ℕ → List ℕ
 rule_text g p = option_map_or (production_text g) (production g p) []
 
 -- each step of a left parse: the number of its production, and the production
-abbrev pub parse_table : Grammar → List ℕ → List ℕ
-parse_table g ps = table_text
-    (places (codes "step") (length ps)
+abbrev pub parse_columns : Grammar → List ℕ → List Column
+parse_columns g ps =
+    places (codes "step") (length ps)
     ∷ numbers (codes "production") ps
-    ∷ texts (codes "rule") (map (rule_text g) ps) ∷ [])
+    ∷ texts (codes "rule") (map (rule_text g) ps) ∷ []
 
 -- ---- rows of the syntax tree
 
@@ -147,8 +148,8 @@ abbrev pub token_in : List Row → ℕ → Option ℕ
 token_in rs k = slice_index_or (map (λ r. r.token) rs) k None
 
 -- the rows' numbers and what they are, and other columns
-abbrev pub rows_with : List Row → List Column → List ℕ
-rows_with rs more = table_text (places (codes "row") (length rs) ∷ texts (codes "kind") (map (λ r. kind_text r.kind) rs) ∷ more)
+abbrev pub rows_with : List Row → List Column → List Column
+rows_with rs more = places (codes "row") (length rs) ∷ texts (codes "kind") (map (λ r. kind_text r.kind) rs) ∷ more
 
 -- the bytes of the token with a number, or nothing where there is none
 abbrev pub token_text : List ℕ → List TokenRow → ℕ → List ℕ
@@ -165,8 +166,8 @@ abbrev pub own_text : List ℕ → List TokenRow → Row → List ℕ
 own_text text ts r = token_text_or_nothing text ts r.token
 
 -- each row: the numbers of its parent and of its own token, its place among its siblings, and the token's bytes
-abbrev pub row_table : List ℕ → List TokenRow → List Row → List ℕ
-row_table text ts rs = rows_with rs
+abbrev pub row_columns : List ℕ → List TokenRow → List Row → List Column
+row_columns text ts rs = rows_with rs
     (numbers_or_dashes (codes "parent") (parents 0 rs)
     ∷ numbers_or_dashes (codes "token") (map (λ r. r.token) rs)
     ∷ numbers (codes "place") (map (λ r. r.place) rs)
@@ -205,8 +206,8 @@ abbrev pub declared_numbers : List Row → List ℕ → List (Option ℕ)
 declared_numbers rs ns = map (declared_at rs ns) (range_with_len 0 (length rs))
 
 -- each row: the token of the declaration that it means, and the number of the variable that it declares
-abbrev pub name_table : List Row → List (Option ℕ) → List (Option ℕ) → List ℕ
-name_table rs bound declared = rows_with rs (numbers_or_dashes (codes "declared at token") bound ∷ numbers_or_dashes (codes "variable") declared ∷ [])
+abbrev pub name_columns : List Row → List (Option ℕ) → List (Option ℕ) → List Column
+name_columns rs bound declared = rows_with rs (numbers_or_dashes (codes "declared at token") bound ∷ numbers_or_dashes (codes "variable") declared ∷ [])
 
 -- ---- types
 
@@ -215,8 +216,8 @@ type_or_dash None = codes "-"
 type_or_dash (Some ty) = type_text ty
 
 -- each row: the type of its value
-abbrev pub type_table : List Row → List (Option ValueType) → List ℕ
-type_table rs types = rows_with rs (texts (codes "type") (map type_or_dash types) ∷ [])
+abbrev pub type_columns : List Row → List (Option ValueType) → List Column
+type_columns rs types = rows_with rs (texts (codes "type") (map type_or_dash types) ∷ [])
 
 -- ---- frames
 
@@ -225,14 +226,20 @@ abbrev pub function_names : List ℕ → List TokenRow → List Row → List (Li
 function_names text ts rs = map (own_text text ts) (filter (λ r. is_function r.kind) rs)
 
 -- Each function's frame and name: how many slots are registers and how many are words of the frame, how many variables there are, and the bytes
-abbrev pub frame_table : List (List ℕ) → List Frame → List ℕ
-frame_table names fs = table_text
-    (places (codes "function") (length fs)
+abbrev pub frame_columns : List (List ℕ) → List Frame → List Column
+frame_columns names fs =
+    places (codes "function") (length fs)
     ∷ numbers (codes "registers") (map (λ f. f.registers) fs)
     ∷ numbers (codes "spills") (map (λ f. f.spills) fs)
     ∷ numbers (codes "variables") (map (λ f. f.locals) fs)
     ∷ numbers (codes "bytes") (map (λ f. f.bytes) fs)
-    ∷ texts (codes "name") names ∷ [])
+    ∷ texts (codes "name") names ∷ []
+
+-- ---- the pieces of the code
+
+-- each row: how many words its piece of the code has, and the number of the first of them
+abbrev pub place_columns : List Row → List ℕ → List ℕ → List Column
+place_columns rs sizes firsts = rows_with rs (numbers (codes "words") sizes ∷ numbers (codes "first word") firsts ∷ [])
 
 -- ---- the code
 
@@ -251,9 +258,35 @@ abbrev pub address_text : ℕ → List ℕ
 address_text k = hexadecimal_text (address k)
 
 -- each word: its address, itself, and its instruction
-abbrev pub code_table : List ℕ → List ℕ
-code_table ws = table_text
-    (places (codes "word") (length ws)
+abbrev pub code_columns : List ℕ → List Column
+code_columns ws =
+    places (codes "word") (length ws)
     ∷ texts (codes "address") (map address_text (range_with_len 0 (length ws)))
     ∷ texts (codes "code") (map hexadecimal_text ws)
-    ∷ texts (codes "instruction") (map line_of ws) ∷ [])
+    ∷ texts (codes "instruction") (map line_of ws) ∷ []
+
+-- ---- the tables
+
+abbrev pub token_table : List ℕ → List TokenRow → List ℕ
+token_table text ts = table_text (token_columns text ts)
+
+abbrev pub parse_table : Grammar → List ℕ → List ℕ
+parse_table g ps = table_text (parse_columns g ps)
+
+abbrev pub row_table : List ℕ → List TokenRow → List Row → List ℕ
+row_table text ts rs = table_text (row_columns text ts rs)
+
+abbrev pub name_table : List Row → List (Option ℕ) → List (Option ℕ) → List ℕ
+name_table rs bound declared = table_text (name_columns rs bound declared)
+
+abbrev pub type_table : List Row → List (Option ValueType) → List ℕ
+type_table rs types = table_text (type_columns rs types)
+
+abbrev pub frame_table : List (List ℕ) → List Frame → List ℕ
+frame_table names fs = table_text (frame_columns names fs)
+
+abbrev pub place_table : List Row → List ℕ → List ℕ → List ℕ
+place_table rs sizes firsts = table_text (place_columns rs sizes firsts)
+
+abbrev pub code_table : List ℕ → List ℕ
+code_table ws = table_text (code_columns ws)

@@ -3,9 +3,9 @@
 ghost use Rattle.std.specs.Prelude.{◌≡◌, ◌++◌, ◌∷◌, ◌≤◌, [], codes, length, map, IfOk, OnOk};
 ghost use Rattle.std.specs.List.{range_with_len};
 ghost use Rattle.rv_text.specs.Written.{line_of};
-ghost use Rattle.pass_tables.specs.Tables.{address, address_text, code_table, hexadecimal_text, texts};
+ghost use Rattle.pass_tables.specs.Tables.{address, address_text, code_columns, hexadecimal_text, texts};
 
-use crate::columns::{places, table};
+use crate::columns::places;
 use rv_text::{push_hexadecimal, push_line};
 use std::alloc::{AllocError, Global};
 use text_columns::{Align, Column};
@@ -94,13 +94,13 @@ fn instructions(alloc: Global, words: &[u32]) -> Result<Column, AllocError>
 }
 
 /// The words of the code: the address of each, itself, and its instruction.
-pub fn code_table(alloc: Global, words: &[u32]) -> Result<Vec<u8>, AllocError>
+pub fn code_columns(alloc: Global, words: &[u32]) -> Result<Vec<Column>, AllocError>
     requires few { length words.now ≤ 4194304 }
-    ensures { IfOk result (λ table. table.items ≡ code_table words.now) }
+    ensures { IfOk result (λ columns. columns.items ≡ code_columns words.now) }
 {
     let places = places(alloc, b"word", words.len())?;
     let addresses = addresses(alloc, words.len())?;
     let codes = codes_of(alloc, words)?;
     let instructions = instructions(alloc, words)?;
-    table(alloc, &[places, addresses, codes, instructions])
+    Ok(vec![in alloc; places, addresses, codes, instructions]?)
 }

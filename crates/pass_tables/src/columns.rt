@@ -48,8 +48,8 @@ pub(crate) fn numbers(alloc: Global, title: &[u8], values: &[u32]) -> Result<Col
     Ok(column)
 }
 
-/// The table of columns.
-pub(crate) fn table(alloc: Global, columns: &[Column]) -> Result<Vec<u8>, AllocError>
+/// The table of columns, as a text.
+pub fn table(alloc: Global, columns: &[Column]) -> Result<Vec<u8>, AllocError>
     ensures { IfOk result (λ text. text.items ≡ table_text columns.now) }
 {
     let mut text = Vec::new(alloc);

@@ -1,10 +1,10 @@
 //! The frames of functions.
 
 ghost use Rattle.std.specs.Prelude.{◌≡◌, ◌++◌, ◌∷◌, [], codes, map, if◌then◌else◌, IfOk, OnOk};
-ghost use Rattle.pass_tables.specs.Tables.{frame_table, function_names, numbers, texts};
+ghost use Rattle.pass_tables.specs.Tables.{frame_columns, function_names, numbers, texts};
 ghost use Rattle.pass_tables.specs.FrameNumbers.{number_in};
 
-use crate::columns::{places, table};
+use crate::columns::places;
 use crate::rows::{kind_of, text_of};
 use ast_rows::{Rows, Tokens};
 use rv_regs::{Frame, Frames};
@@ -72,14 +72,14 @@ fn numbers(alloc: Global, title: &[u8], frames: &[Frame], part: Part) -> Result<
 
 /// The frames of functions, each with the function's name: how many slots are registers and how many are words of the frame, how many variables there
 /// are, and the bytes.
-pub fn frame_table(
+pub fn frame_columns(
     alloc: Global,
     text: &[u8],
     tokens: &Tokens,
     rows: &Rows,
     frames: &Frames,
-) -> Result<Vec<u8>, AllocError>
-    ensures { IfOk result (λ table. table.items ≡ frame_table (function_names text.now tokens.now rows.now) frames.now) }
+) -> Result<Vec<Column>, AllocError>
+    ensures { IfOk result (λ columns. columns.items ≡ frame_columns (function_names text.now tokens.now rows.now) frames.now) }
 {
     let frames = frames.as_slice();
     let places = places(alloc, b"function", frames.len())?;
@@ -88,5 +88,5 @@ pub fn frame_table(
     let spills = numbers(alloc, b"spills", frames, Part::Spills)?;
     let variables = numbers(alloc, b"variables", frames, Part::Variables)?;
     let bytes = numbers(alloc, b"bytes", frames, Part::Bytes)?;
-    table(alloc, &[places, registers, spills, variables, bytes, names])
+    Ok(vec![in alloc; places, registers, spills, variables, bytes, names]?)
 }

@@ -1,7 +1,7 @@
-//! The arrays that the passes of the compiler hand on, as tables of text: tokens, the left parse, the rows of the syntax tree, what names mean, types,
-//! frames, and the code. Each table has a line for each place of its arrays, with its number first, and a column for each array.
+//! The arrays that the passes of the compiler hand on, as columns of text: tokens, the left parse, the rows of the syntax tree, what names mean, types,
+//! frames, the pieces of the code, and the code. There is a line for each place of a pass's arrays, with its number first, and a column for each array.
 //!
-//! What is allocated is the columns, the text, and, where cells are put together of parts, the bytes of one cell.
+//! What is allocated is the columns, the text of a table, and, where cells are put together of parts, the bytes of one cell.
 #![tactic(auto)]
 
 mod code;
@@ -9,6 +9,7 @@ mod columns;
 mod frames;
 mod names;
 mod parse;
+mod pieces;
 mod rows;
 #[cfg(test)]
 mod tests;
@@ -16,14 +17,16 @@ mod tokens;
 mod types;
 mod worked;
 
-pub use code::code_table;
-pub use frames::frame_table;
-pub use names::name_table;
-pub use parse::parse_table;
-pub use rows::row_table;
-pub use tokens::token_table;
-pub use types::type_table;
+pub use code::code_columns;
+pub use columns::table;
+pub use frames::frame_columns;
+pub use names::name_columns;
+pub use parse::parse_columns;
+pub use pieces::place_columns;
+pub use rows::{push_kind, row_columns};
+pub use tokens::{bytes_at, number_at, token_columns};
+pub use types::type_columns;
 pub use worked::{
-    worked_code, worked_frames, worked_names, worked_parses, worked_rows, worked_tokens,
-    worked_types,
+    worked_code, worked_frames, worked_names, worked_parses, worked_pieces, worked_rows,
+    worked_tokens, worked_types,
 };

@@ -2,9 +2,9 @@
 
 ghost use Rattle.std.specs.Prelude.{◌≡◌, ◌≤◌, None, codes, length, map, slice_index_or, IfOk};
 ghost use Rattle.ast_rows.specs.NameRows.{row_word};
-ghost use Rattle.pass_tables.specs.Tables.{bound_at, bound_tokens, declared_at, declared_numbers, is_declaration, is_use, name_table, numbers_or_dashes, token_meant};
+ghost use Rattle.pass_tables.specs.Tables.{bound_at, bound_tokens, declared_at, declared_numbers, is_declaration, is_use, name_columns, numbers_or_dashes, token_meant};
 
-use crate::columns::{places, push_or_dash, table};
+use crate::columns::{places, push_or_dash};
 use crate::rows::{kind_of, kinds, token_of};
 use ast_rows::{Names, Rows};
 use source_meaning::Kind;
@@ -95,13 +95,13 @@ fn declared_numbers(alloc: Global, rows: &Rows, names: &Names) -> Result<Column,
 }
 
 /// What the names of a program mean: the token of the declaration that each row means, and the number of the variable that it declares.
-pub fn name_table(alloc: Global, rows: &Rows, names: &Names) -> Result<Vec<u8>, AllocError>
+pub fn name_columns(alloc: Global, rows: &Rows, names: &Names) -> Result<Vec<Column>, AllocError>
     requires few { length rows.now ≤ 4294967295 }
-    ensures { IfOk result (λ table. table.items ≡ name_table rows.now (bound_tokens rows.now names.now.meant) (declared_numbers rows.now names.now.numbers)) }
+    ensures { IfOk result (λ columns. columns.items ≡ name_columns rows.now (bound_tokens rows.now names.now.meant) (declared_numbers rows.now names.now.numbers)) }
 {
     let places = places(alloc, b"row", rows.len())?;
     let kinds = kinds(alloc, rows.kinds())?;
     let bound = bound_tokens(alloc, rows, names)?;
     let declared = declared_numbers(alloc, rows, names)?;
-    table(alloc, &[places, kinds, bound, declared])
+    Ok(vec![in alloc; places, kinds, bound, declared]?)
 }

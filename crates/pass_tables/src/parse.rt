@@ -1,9 +1,9 @@
 //! The left parse of a text.
 
 ghost use Rattle.std.specs.Prelude.{◌≡◌, ◌++◌, ◌∷◌, [], codes, map, IfOk, OnOk};
-ghost use Rattle.pass_tables.specs.Tables.{numbers, parse_table, production_text, rule_text, symbol_text, symbols_text, texts};
+ghost use Rattle.pass_tables.specs.Tables.{numbers, parse_columns, production_text, rule_text, symbol_text, symbols_text, texts};
 
-use crate::columns::{places, table};
+use crate::columns::places;
 use grammar_file::{Grammar, Production, Symbol};
 use std::alloc::{AllocError, Global};
 use text_columns::{Align, Column};
@@ -90,15 +90,15 @@ fn rules(alloc: Global, grammar: &Grammar, productions: &[u16]) -> Result<Column
 }
 
 /// The steps of a left parse: the number of each step's production, and the production.
-pub fn parse_table(
+pub fn parse_columns(
     alloc: Global,
     grammar: &Grammar,
     productions: &[u16],
-) -> Result<Vec<u8>, AllocError>
-    ensures { IfOk result (λ table. table.items ≡ parse_table grammar.now productions.now) }
+) -> Result<Vec<Column>, AllocError>
+    ensures { IfOk result (λ columns. columns.items ≡ parse_columns grammar.now productions.now) }
 {
     let places = places(alloc, b"step", productions.len())?;
     let numbers = numbers(alloc, productions)?;
     let rules = rules(alloc, grammar, productions)?;
-    table(alloc, &[places, numbers, rules])
+    Ok(vec![in alloc; places, numbers, rules]?)
 }

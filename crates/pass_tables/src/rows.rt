@@ -3,10 +3,10 @@
 ghost use Rattle.std.specs.Prelude.{◌≡◌, ◌++◌, ◌∷◌, [], codes, map, slice_index_or, IfOk, OnOk};
 ghost use Rattle.source_meaning.specs.Rows.{parents};
 ghost use Rattle.ast_rows.specs.NodeRows.{token_of, token_word};
-ghost use Rattle.pass_tables.specs.Tables.{binary_text, kind_in, kind_text, numbers_or_dashes, own_text, row_table, texts, token_in, token_text_or_nothing, truth_text, type_text, unary_text};
+ghost use Rattle.pass_tables.specs.Tables.{binary_text, kind_in, kind_text, numbers_or_dashes, own_text, row_columns, texts, token_in, token_text_or_nothing, truth_text, type_text, unary_text};
 ghost use Rattle.pass_tables.specs.ByRow.{parent_in};
 
-use crate::columns::{numbers, places, push_decimal, push_or_dash, table};
+use crate::columns::{numbers, places, push_decimal, push_or_dash};
 use crate::tokens::lexeme;
 use ast_rows::{Rows, Tokens};
 use source_meaning::{BinaryOp, Kind, UnaryOp, ValueType};
@@ -76,8 +76,8 @@ fn push_two(out: &mut Vec<u8>, first: &[u8], second: &[u8]) -> Result<(), AllocE
     out.extend_from_slice(second)
 }
 
-// Writes what a node is behind a text.
-fn push_kind(out: &mut Vec<u8>, kind: Kind) -> Result<(), AllocError>
+/// Writes what a node is behind a text.
+pub fn push_kind(out: &mut Vec<u8>, kind: Kind) -> Result<(), AllocError>
     ensures { OnOk result (out.new.items ≡ out.old.items ++ kind_text kind) }
 {
     match kind {
@@ -214,13 +214,13 @@ fn own_texts(alloc: Global, text: &[u8], tokens: &Tokens, rows: &Rows) -> Result
 
 /// The rows of a syntax tree: what each is, the numbers of its parent and of its own token, its place among its siblings, and the
 /// token's bytes.
-pub fn row_table(
+pub fn row_columns(
     alloc: Global,
     text: &[u8],
     tokens: &Tokens,
     rows: &Rows,
-) -> Result<Vec<u8>, AllocError>
-    ensures { IfOk result (λ table. table.items ≡ row_table text.now tokens.now rows.now) }
+) -> Result<Vec<Column>, AllocError>
+    ensures { IfOk result (λ columns. columns.items ≡ row_columns text.now tokens.now rows.now) }
 {
     let numbers_of_rows = places(alloc, b"row", rows.len())?;
     let kinds = kinds(alloc, rows.kinds())?;
@@ -228,15 +228,12 @@ pub fn row_table(
     let own_tokens = own_tokens(alloc, rows)?;
     let own_texts = own_texts(alloc, text, tokens, rows)?;
     let places = numbers(alloc, b"place", rows.places())?;
-    table(
-        alloc,
-        &[
-            numbers_of_rows,
-            kinds,
-            parents,
-            own_tokens,
-            places,
-            own_texts,
-        ],
-    )
+    Ok(vec![in alloc;
+        numbers_of_rows,
+        kinds,
+        parents,
+        own_tokens,
+        places,
+        own_texts,
+    ]?)
 }

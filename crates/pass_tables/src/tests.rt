@@ -1,6 +1,9 @@
 //! The tables of a worked source, whose arrays are made by hand.
 
-use crate::{code_table, frame_table, name_table, parse_table, row_table, token_table, type_table};
+use crate::{
+    code_columns, frame_columns, name_columns, parse_columns, place_columns, row_columns, table,
+    token_columns, type_columns,
+};
 use ast_rows::{Names, Rows, Tokens, Types};
 use grammar_file::Grammar;
 use rv_regs::{Frame, Frames};
@@ -116,9 +119,9 @@ fn rows(alloc: Global) -> Result<Rows, Fail> {
 #[test]
 fn tokens_of_two_functions(rt: HostRuntime) -> Result<(), Fail> {
     let alloc = rt.alloc();
-    let table = token_table(alloc, SOURCE, &tokens(alloc)?)?;
+    let text = table(alloc, &token_columns(alloc, SOURCE, &tokens(alloc)?)?)?;
     assert_eq!(rt;
-        table.as_slice(),
+        text.as_slice(),
         b"\
 token  terminal  start  length  text
     0  fn            0       2  fn
@@ -161,9 +164,9 @@ token  terminal  start  length  text
 fn parse_of_a_word(rt: HostRuntime) -> Result<(), Fail> {
     let alloc = rt.alloc();
     let grammar = Grammar::read(alloc, b"S -> a S b\nS ->")?;
-    let table = parse_table(alloc, &grammar, &[1, 1, 2, 3])?;
+    let text = table(alloc, &parse_columns(alloc, &grammar, &[1, 1, 2, 3])?)?;
     assert_eq!(rt;
-        table.as_slice(),
+        text.as_slice(),
         b"\
 step  production  rule
    0           1  S -> a S b
@@ -179,9 +182,12 @@ step  production  rule
 #[test]
 fn rows_of_two_functions(rt: HostRuntime) -> Result<(), Fail> {
     let alloc = rt.alloc();
-    let table = row_table(alloc, SOURCE, &tokens(alloc)?, &rows(alloc)?)?;
+    let text = table(
+        alloc,
+        &row_columns(alloc, SOURCE, &tokens(alloc)?, &rows(alloc)?)?,
+    )?;
     assert_eq!(rt;
-        table.as_slice(),
+        text.as_slice(),
         b"\
 row  kind           parent  token  place  text
   0  parameter int       5      4      0  n
@@ -209,9 +215,12 @@ fn names_of_two_functions(rt: HostRuntime) -> Result<(), Fail> {
     let numbers = Vec::from_array(alloc, NUMBERS)?;
     let rows = rows(alloc)?;
     assert!(rt; rows.len() <= 4294967295);
-    let table = name_table(alloc, &rows, &Names::new(meant, numbers, 10))?;
+    let text = table(
+        alloc,
+        &name_columns(alloc, &rows, &Names::new(meant, numbers, 10))?,
+    )?;
     assert_eq!(rt;
-        table.as_slice(),
+        text.as_slice(),
         b"\
 row  kind           declared at token  variable
   0  parameter int                  -         0
@@ -236,9 +245,9 @@ row  kind           declared at token  variable
 fn types_of_two_functions(rt: HostRuntime) -> Result<(), Fail> {
     let alloc = rt.alloc();
     let types = Types::new(Vec::from_array(alloc, TYPES)?);
-    let table = type_table(alloc, &rows(alloc)?, &types)?;
+    let text = table(alloc, &type_columns(alloc, &rows(alloc)?, &types)?)?;
     assert_eq!(rt;
-        table.as_slice(),
+        text.as_slice(),
         b"\
 row  kind           type
   0  parameter int  -
@@ -275,9 +284,12 @@ fn frames_of_two_functions(rt: HostRuntime) -> Result<(), Fail> {
         bytes: 64,
     };
     let frames = Frames::new(Vec::from_array(alloc, [f, main])?);
-    let table = frame_table(alloc, SOURCE, &tokens(alloc)?, &rows(alloc)?, &frames)?;
+    let text = table(
+        alloc,
+        &frame_columns(alloc, SOURCE, &tokens(alloc)?, &rows(alloc)?, &frames)?,
+    )?;
     assert_eq!(rt;
-        table.as_slice(),
+        text.as_slice(),
         b"\
 function  registers  spills  variables  bytes  name
        0          1       0          1     16  f
@@ -289,11 +301,43 @@ function  registers  spills  variables  bytes  name
 }
 
 #[test]
+fn pieces_of_two_functions(rt: HostRuntime) -> Result<(), Fail> {
+    let alloc = rt.alloc();
+    let sizes = [0, 1, 1, 2, 0, 12, 1, 3, 2, 0, 5, 0];
+    let firsts = [9, 9, 10, 11, 13, 13, 25, 26, 29, 31, 31, 36];
+    let text = table(
+        alloc,
+        &place_columns(alloc, &rows(alloc)?, &sizes, &firsts)?,
+    )?;
+    assert_eq!(rt;
+        text.as_slice(),
+        b"\
+row  kind           words  first word
+  0  parameter int      0           9
+  1  name               1           9
+  2  unary -            1          10
+  3  return             2          11
+  4  block              0          13
+  5  function int      12          13
+  6  number 1           1          25
+  7  call               3          26
+  8  return             2          29
+  9  block              0          31
+ 10  function int       5          31
+ 11  program            0          36
+"
+            .as_slice()
+    );
+    Ok(())
+}
+
+#[test]
 fn code_of_four_words(rt: HostRuntime) -> Result<(), Fail> {
     let words = [0x00C000EF, 0xFF010113, 0x00C12083, 0xFFFFFFFF];
-    let table = code_table(rt.alloc(), &words)?;
+    let alloc = rt.alloc();
+    let text = table(alloc, &code_columns(alloc, &words)?)?;
     assert_eq!(rt;
-        table.as_slice(),
+        text.as_slice(),
         b"\
 word  address     code        instruction
    0  0x00010054  0x00c000ef  jal x1, 12

@@ -2,16 +2,16 @@
 
 ghost use Rattle.std.specs.Prelude.{◌≡◌, codes, drop, map, slice_index_or, take, IfOk};
 ghost use Rattle.source_meaning.specs.Grammar.{terminal_name};
-ghost use Rattle.pass_tables.specs.Tables.{lexeme_of, texts, token_table, token_text};
+ghost use Rattle.pass_tables.specs.Tables.{lexeme_of, texts, token_columns, token_text};
 
-use crate::columns::{numbers, places, table};
+use crate::columns::{numbers, places};
 use ast_rows::Tokens;
 use source_meaning::Terminal;
 use std::alloc::{AllocError, Global};
 use text_columns::{Align, Column};
 
-// The number at a place of a column, or 0 behind the last one.
-fn at(column: &[u32], place: usize) -> u32
+/// The number at a place of a column, or 0 behind the last one.
+pub fn number_at(column: &[u32], place: usize) -> u32
     ensures { result ≡ slice_index_or column.now place 0 }
 {
     column.get(place).copied().unwrap_or(0)
@@ -31,13 +31,20 @@ fn front(bytes: &[u8], count: usize) -> &[u8]
     &bytes[..count.min(bytes.len())]
 }
 
+/// The bytes of a text from a place on, so many or as many as there are.
+pub fn bytes_at(text: &[u8], place: usize, count: usize) -> &[u8]
+    ensures { result.now ≡ take count (drop place text.now) }
+{
+    front(behind(text, place), count)
+}
+
 /// The bytes of the token with a number, or nothing where there is none.
 pub(crate) fn lexeme<'a>(text: &'a [u8], tokens: &Tokens, number: usize) -> &'a [u8]
     ensures { result.now ≡ token_text text.now tokens.now number }
 {
-    let start = at(tokens.starts(), number);
-    let length = at(tokens.lengths(), number);
-    front(behind(text, start as usize), length as usize)
+    let start = number_at(tokens.starts(), number);
+    let length = number_at(tokens.lengths(), number);
+    bytes_at(text, start as usize, length as usize)
 }
 
 // The bytes of each token.
@@ -101,13 +108,13 @@ fn terminals(alloc: Global, terminals: &[Terminal]) -> Result<Column, AllocError
 }
 
 /// The tokens of a text: the terminal of each, the place of its first byte, how many bytes it has, and these bytes.
-pub fn token_table(alloc: Global, text: &[u8], tokens: &Tokens) -> Result<Vec<u8>, AllocError>
-    ensures { IfOk result (λ table. table.items ≡ token_table text.now tokens.now) }
+pub fn token_columns(alloc: Global, text: &[u8], tokens: &Tokens) -> Result<Vec<Column>, AllocError>
+    ensures { IfOk result (λ columns. columns.items ≡ token_columns text.now tokens.now) }
 {
     let places = places(alloc, b"token", tokens.len())?;
     let lexemes = lexemes(alloc, text, tokens)?;
     let terminals = terminals(alloc, tokens.kinds())?;
     let starts = numbers(alloc, b"start", tokens.starts())?;
     let lengths = numbers(alloc, b"length", tokens.lengths())?;
-    table(alloc, &[places, terminals, starts, lengths, lexemes])
+    Ok(vec![in alloc; places, terminals, starts, lengths, lexemes]?)
 }

@@ -1,9 +1,9 @@
 //! The types of expressions.
 
 ghost use Rattle.std.specs.Prelude.{◌≡◌, codes, map, IfOk};
-ghost use Rattle.pass_tables.specs.Tables.{texts, type_or_dash, type_table};
+ghost use Rattle.pass_tables.specs.Tables.{texts, type_columns, type_or_dash};
 
-use crate::columns::{places, table};
+use crate::columns::places;
 use crate::rows::{kinds, type_text};
 use ast_rows::{Rows, Types};
 use source_meaning::ValueType;
@@ -32,11 +32,11 @@ fn types_of(alloc: Global, types: &[Option<ValueType>]) -> Result<Column, AllocE
 }
 
 /// The types of the expressions among rows.
-pub fn type_table(alloc: Global, rows: &Rows, types: &Types) -> Result<Vec<u8>, AllocError>
-    ensures { IfOk result (λ table. table.items ≡ type_table rows.now types.now) }
+pub fn type_columns(alloc: Global, rows: &Rows, types: &Types) -> Result<Vec<Column>, AllocError>
+    ensures { IfOk result (λ columns. columns.items ≡ type_columns rows.now types.now) }
 {
     let places = places(alloc, b"row", rows.len())?;
     let kinds = kinds(alloc, rows.kinds())?;
     let types = types_of(alloc, types.as_slice())?;
-    table(alloc, &[places, kinds, types])
+    Ok(vec![in alloc; places, kinds, types]?)
 }

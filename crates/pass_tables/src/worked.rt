@@ -6,7 +6,7 @@ ghost use Rattle.source_meaning.specs.Grammar.{grammar};
 ghost use Rattle.source_meaning.specs.Scope.{bindings};
 ghost use Rattle.source_meaning.specs.Typing.{types};
 ghost use Rattle.source_meaning.specs.Worked.{assigned, nested, nothing, program_of, seven};
-ghost use Rattle.pass_tables.specs.Tables.{bound_tokens, code_table, declared_numbers, frame_table, function_names, name_table, parse_table, row_table, token_table, type_table};
+ghost use Rattle.pass_tables.specs.Tables.{bound_tokens, code_table, declared_numbers, frame_table, function_names, name_table, parse_table, place_table, row_table, token_table, type_table};
 ghost use Rattle.pass_tables.specs.Worked.{meant_in_assigned, numbers_in_assigned, parse_of, rows_of, tokens_of};
 
 /// The tokens of `fn main(): int { return 7; }`.
@@ -95,6 +95,17 @@ pub fn worked_frames()
         codes "function  registers  spills  variables  bytes  name\n"
         ++ codes "       0          1       0          1     16  f\n"
         ++ codes "       1         11       3          0     64  main\n" }
+{}
+
+/// The pieces of `fn main(): int { return 7; }`, behind nine words that belong to no row.
+pub fn worked_pieces()
+    ensures { place_table (rows_of seven) (1 ∷ 2 ∷ 0 ∷ 5 ∷ 0 ∷ []) (9 ∷ 10 ∷ 12 ∷ 12 ∷ 17 ∷ []) ≡
+        codes "row  kind          words  first word\n"
+        ++ codes "  0  number 7          1           9\n"
+        ++ codes "  1  return            2          10\n"
+        ++ codes "  2  block             0          12\n"
+        ++ codes "  3  function int      5          12\n"
+        ++ codes "  4  program           0          17\n" }
 {}
 
 /// Three instructions, and a word that is none.

@@ -149,13 +149,34 @@ impl Column {
         self.ends.len()
     }
 
+    /// The title.
+    pub fn title(&self) -> &[u8]
+        ensures { result.now ≡ self.now.title }
+    {
+        &self.title
+    }
+
+    /// Where texts stand in the column.
+    pub fn align(&self) -> Align
+        ensures { result ≡ self.now.align }
+    {
+        self.align
+    }
+
+    /// The cell with a number, from 0 on; nothing where there are fewer.
+    pub fn cell(&self, number: usize) -> &[u8]
+        ensures { result.now ≡ cell_at self.now number }
+    {
+        cell_of(&self.bytes, &self.ends, number)
+    }
+
     // What the column has in a line.
     fn text(&self, line: Line) -> &[u8]
         ensures { result.now ≡ text_in line self.now }
     {
         match line {
-            Line::Heading => &self.title,
-            Line::Row(row) => cell_of(&self.bytes, &self.ends, row),
+            Line::Heading => self.title(),
+            Line::Row(row) => self.cell(row),
         }
     }
 

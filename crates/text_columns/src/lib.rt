@@ -8,5 +8,5 @@ mod tests;
 mod worked;
 
 pub use column::{Align, Column};
-pub use table::push_table;
+pub use table::{push_table, rows_of};
 pub use worked::worked_tables;

@@ -54,8 +54,8 @@ fn push_line(out: &mut Vec<u8>, columns: &[Column], line: Line) -> Result<(), Al
     Ok(())
 }
 
-// The greatest number of cells that a column has.
-fn rows_of(columns: &[Column]) -> usize
+/// The greatest number of cells that a column has.
+pub fn rows_of(columns: &[Column]) -> usize
     ensures { result ≡ rows_of columns.now }
 {
     let mut rows = 0;

@@ -8,7 +8,6 @@ returns c =
     let text = c.args.text.now in
     let tokens = c.args.tokens.now in
     let k = c.args.number in
-    let start : c.at-start.result ≡ get_or (map (λ (t : TokenRow). t.start) tokens) k 0 = c.at-start.ensures ∙ ap (λ (xs : List ℕ). get_or xs k 0) c.starts.ensures in
-    let length : c.at-length.result ≡ get_or (map (λ (t : TokenRow). t.length) tokens) k 0 = c.at-length.ensures ∙ ap (λ (xs : List ℕ). get_or xs k 0) c.lengths.ensures in
-    let behind : c.behind.result.now ≡ drop (get_or (map (λ (t : TokenRow). t.start) tokens) k 0) text = c.behind.ensures ∙ ap (λ (n : ℕ). drop n text) start in
-    c.front.ensures ∙ (λ i. take (length i) (behind i)) ∙ sym (by_columns text tokens k)
+    let start : c.number_at-start.result ≡ get_or (map (λ (t : TokenRow). t.start) tokens) k 0 = c.number_at-start.ensures ∙ ap (λ (xs : List ℕ). get_or xs k 0) c.starts.ensures in
+    let length : c.number_at-length.result ≡ get_or (map (λ (t : TokenRow). t.length) tokens) k 0 = c.number_at-length.ensures ∙ ap (λ (xs : List ℕ). get_or xs k 0) c.lengths.ensures in
+    c.bytes_at.ensures ∙ (λ i. take (length i) (drop (start i) text)) ∙ sym (by_columns text tokens k)
