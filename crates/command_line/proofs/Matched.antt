@@ -8,10 +8,10 @@ use Rattle.clap.specs.Faults.{fault_of, is_simple_and_free}
 use Rattle.clap.specs.Walk.{Text, Row, first_of, is_empty}
 use Rattle.clap.specs.declared.parser.matches.ArgMatches.{ArgMatches}
 use Rattle.clap.specs.declared.error.kind.ErrorKind.{ErrorKind}
-use Rattle.command_line.specs.Words.{Asked, IsNoCode, IsNoPass, app, asked, asked_by, flag_at, known, number_at, pass_named, shared_out, unknown_code}
-use Rattle.command_line.specs.Ranges.{HasWord, HasNumbers, of_build, of_run, of_show, of_batch, of_emu, of_dump, of_asm, of_table, of_drill, of_explain}
+use Rattle.command_line.specs.Words.{Asked, IsNoCode, IsNoView, app, asked, asked_by, flag_at, known, number_at, pass_named, shared_out, unknown_code, view_at, view_of}
+use Rattle.command_line.specs.Ranges.{HasNumbers, of_build, of_run, of_show, of_batch, of_emu, of_dump, of_asm, of_table, of_drill, of_explain}
 use Rattle.command_line.specs.declared.command.Command.{Command}
-use Rattle.command_line.specs.declared.command.Command.TheVariants.{Build, Run, Show, Batch, Emu, Dump, Asm, Table, Drill, Explain}
+use Rattle.command_line.specs.declared.command.Command.TheVariants.{Build, Run, Show, Page, Batch, Emu, Dump, Asm, Table, Drill, Explain}
 use Rattle.command_line.specs.declared.command.Pass.{Pass}
 use Rattle.diagnostic_texts.specs.Explained.{Explained, explanation_of}
 use Rattle.command_line.proofs.Taken.{taken}
@@ -77,10 +77,20 @@ pub handed_on : {A E : Type 0} (P : E → Type 0) (r : Result A E) (f : E) → I
 handed_on P (Ok x) f is p = absurd is
 handed_on P (Err e) f is p = subst P (sym is) p
 
+-- there is no view, or one that is known
+view_is : (is_page : Bool) (word : Option Text) → (view_of is_page word ≡ None) ⊎ ((view : Command) × (view_of is_page word ≡ Some view) × (unknown_code view ≡ None))
+view_is true None = inr (Page, refl, refl)
+view_is true (Some word) = inl refl
+view_is false word = go (option_and_then pass_named word)
+  where
+    go : (o : Option Pass) → (option_map (λ (p : Pass). Show p) o ≡ None) ⊎ ((view : Command) × (option_map (λ (p : Pass). Show p) o ≡ Some view) × (unknown_code view ≡ None))
+    go None = inl refl
+    go (Some p) = inr (Show p, refl, refl)
+
 -- what words ask for that name a subcommand
 module _ (words : List Text) (rows : List Row) where
   abbrev Asks : Type 0
-  Asks = ((a : Asked) × (asked words ≡ Some a)) ⊎ (IsNoCode words ⊎ IsNoPass words)
+  Asks = ((a : Asked) × (asked words ≡ Some a)) ⊎ (IsNoCode words ⊎ IsNoView words)
 
   abbrev explained_with : Option Explained → Option Asked
   explained_with o =
@@ -93,32 +103,29 @@ module _ (words : List Text) (rows : List Row) where
       go None e = inr (inl (record { options = rows; explains = explains; is_none = e }))
       go (Some x) e = inl (record { command = Explain (number_at (codes "code") rows); workers = 1; chunk = 1 }, h ∙ ap explained_with e)
 
-  abbrev shown_as : Option Pass → Option Asked
-  shown_as o = option_and_then known (option_map (λ (p : Pass). shared_out (Show p) rows) o)
+  abbrev shown_as : Option Command → Option Asked
+  shown_as o = option_and_then known (option_map (λ (view : Command). shared_out view rows) o)
 
-  shown_by : (word : Text) (o : Option Pass) → first_of (codes "pass") rows ≡ Some word → pass_named word ≡ o → option_and_then known (asked_by (codes "show") rows) ≡ shown_as o
-  shown_by word o first e = ap (λ (t : Option Text). shown_as (option_and_then pass_named t)) first ∙ ap shown_as e
-
-  asks_to_show : HasWord (codes "pass") rows → subcommand_of app words ≡ Some (codes "show", rows) → asked words ≡ option_and_then known (asked_by (codes "show") rows) → Asks
-  asks_to_show w shows h = go (pass_named w.text) refl
+  asks_to_show : subcommand_of app words ≡ Some (codes "show", rows) → asked words ≡ option_and_then known (asked_by (codes "show") rows) → Asks
+  asks_to_show shows h = go (view_is (flag_at (codes "html") rows) (first_of (codes "pass") rows))
     where
-      go : (o : Option Pass) → pass_named w.text ≡ o → Asks
-      go None e = inr (inr (record { options = rows; word = w.text; shows = shows; is_word = w.is_first; is_none = e }))
-      go (Some p) e = inl (shared_out (Show p) rows, h ∙ shown_by w.text (Some p) w.is_first e)
+      go : (view_at rows ≡ None) ⊎ ((view : Command) × (view_at rows ≡ Some view) × (unknown_code view ≡ None)) → Asks
+      go (inl none) = inr (inr (record { options = rows; shows = shows; is_none = none }))
+      go (inr (view, is, known_view)) = inl (shared_out view rows, h ∙ ap shown_as is ∙ ap (λ (o : Option ℕ). if is_some o then None else Some (shared_out view rows)) known_view)
 
   asks : (name : Text) → HasNumbers rows name → subcommand_of app words ≡ Some (name, rows) → asked words ≡ option_and_then known (asked_by name rows) → Asks
   asks _ (of_build plan) is h = inl (shared_out (Build (flag_at (codes "fold") rows)) rows, h)
   asks _ (of_run plan steps) is h = inl (shared_out (Run (number_at (codes "steps") rows) (flag_at (codes "fold") rows)) rows, h)
-  asks _ (of_show word plan) is h = asks_to_show word is h
+  asks _ (of_show plan) is h = asks_to_show is h
   asks _ (of_batch plan) is h = inl (shared_out Batch rows, h)
   asks _ (of_emu steps) is h = inl (record { command = Emu (number_at (codes "steps") rows); workers = 1; chunk = 1 }, h)
   asks _ of_dump is h = inl (record { command = Dump; workers = 1; chunk = 1 }, h)
   asks _ of_asm is h = inl (record { command = Asm; workers = 1; chunk = 1 }, h)
-  asks _ of_table is h = inl (record { command = Table (first_of (codes "word") rows); workers = 1; chunk = 1 }, h)
+  asks _ of_table is h = inl (record { command = Table (first_of (codes "word") rows) (flag_at (codes "entries") rows); workers = 1; chunk = 1 }, h)
   asks _ (of_drill text plan) is h = inl (shared_out (Drill (number_at (codes "seed") rows) (number_at (codes "functions") rows)) rows, h)
   asks _ (of_explain code) is h = asks_to_explain is h
 
-pub taken_asked : (words : List Text) → fault_of app words ≡ [] → ((a : Asked) × (asked words ≡ Some a)) ⊎ (IsNoCode words ⊎ IsNoPass words)
+pub taken_asked : (words : List Text) → fault_of app words ≡ [] → ((a : Asked) × (asked words ≡ Some a)) ⊎ (IsNoCode words ⊎ IsNoView words)
 taken_asked words none =
     let one = taken words none in
     asks words one.0.1 one.0.0 one.2 one.1 (asked_some words one.0 none one.1)
@@ -138,8 +145,8 @@ nothing_asked words name rows is none = go (is_empty (fault_of app words))
 pub no_code : (words : List Text) → IsNoCode words → asked words ≡ None
 no_code words n = nothing_asked words (codes "explain") n.options n.explains (ap (explained_with words n.options) n.is_none)
 
-pub no_pass : (words : List Text) → IsNoPass words → asked words ≡ None
-no_pass words n = nothing_asked words (codes "show") n.options n.shows (shown_by words n.options n.word None n.is_word n.is_none)
+pub no_view : (words : List Text) → IsNoView words → asked words ≡ None
+no_view words n = nothing_asked words (codes "show") n.options n.shows (ap (shown_as words n.options) n.is_none)
 
 -- ---- codes that no diagnostic has
 
@@ -155,11 +162,12 @@ unknown_to : (c : Command) → is_some (unknown_code c) ≡ true → (code : ℕ
 unknown_to (Build fold) h = cc
 unknown_to (Run steps fold) h = cc
 unknown_to (Show pass) h = cc
+unknown_to Page h = cc
 unknown_to Batch h = cc
 unknown_to (Emu steps) h = cc
 unknown_to Dump h = cc
 unknown_to Asm h = cc
-unknown_to (Table word) h = cc
+unknown_to (Table word entries) h = cc
 unknown_to (Drill seed functions) h = cc
 unknown_to (Explain code) h = (code, refl, none_of code (explanation_of code) h)
 

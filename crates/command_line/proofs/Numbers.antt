@@ -6,7 +6,7 @@ use Rattle.std.specs.Result.{IsOk}
 use Rattle.std.specs.Str.Parse.{ParsesUnsigned, digits_value, without_leading_plus}
 use Rattle.clap.specs.Values.{IsUnsignedIn}
 use Rattle.clap.specs.Walk.{Text, Row}
-use Rattle.command_line.specs.Ranges.{HasNumber, HasPlan, HasText, HasWord, HasNumbers, of_build, of_run, of_show, of_batch, of_emu, of_dump, of_asm, of_table, of_drill, of_explain}
+use Rattle.command_line.specs.Ranges.{HasNumber, HasPlan, HasText, HasNumbers, of_build, of_run, of_show, of_batch, of_emu, of_dump, of_asm, of_table, of_drill, of_explain}
 
 pub shown : {X Y : Type 0} (f : X → Y) (o : Option X) (y : Y) → option_map f o ≡ Some y → (x : X) × (o ≡ Some x) × (f x ≡ y)
 shown f None y h = cc
@@ -54,7 +54,7 @@ seven_is_not_three e = absurd (omega arith)
 pub run_plan : (rows : List Row) (name : Text) → HasNumbers rows name → name ≡ codes "run" → HasPlan rows
 run_plan rows name (of_build plan) e = absurd (five_is_not_three (ap length e))
 run_plan rows name (of_run plan steps) e = plan
-run_plan rows name (of_show word plan) e = absurd (four_is_not_three (ap length e))
+run_plan rows name (of_show plan) e = absurd (four_is_not_three (ap length e))
 run_plan rows name (of_batch plan) e = absurd (five_is_not_three (ap length e))
 run_plan rows name (of_emu steps) e = absurd (e_is_not_r (ap (λ (t : Text). slice_index t 0) e))
 run_plan rows name of_dump e = absurd (four_is_not_three (ap length e))
@@ -84,7 +84,7 @@ seven_is_not_five e = absurd (omega arith)
 pub batch_plan : (rows : List Row) (name : Text) → HasNumbers rows name → name ≡ codes "batch" → HasPlan rows
 batch_plan rows name (of_build plan) e = absurd (u_is_not_a (ap (λ (t : Text). slice_index t 1) e))
 batch_plan rows name (of_run plan steps) e = absurd (three_is_not_five (ap length e))
-batch_plan rows name (of_show word plan) e = absurd (four_is_not_five (ap length e))
+batch_plan rows name (of_show plan) e = absurd (four_is_not_five (ap length e))
 batch_plan rows name (of_batch plan) e = plan
 batch_plan rows name (of_emu steps) e = absurd (three_is_not_five (ap length e))
 batch_plan rows name of_dump e = absurd (four_is_not_five (ap length e))
@@ -102,7 +102,7 @@ t_is_not_d e = absurd (omega arith)
 pub drill_numbers : (rows : List Row) (name : Text) → HasNumbers rows name → name ≡ codes "drill" → HasText rows × HasPlan rows
 drill_numbers rows name (of_build plan) e = absurd (b_is_not_d (ap (λ (t : Text). slice_index t 0) e))
 drill_numbers rows name (of_run plan steps) e = absurd (three_is_not_five (ap length e))
-drill_numbers rows name (of_show word plan) e = absurd (four_is_not_five (ap length e))
+drill_numbers rows name (of_show plan) e = absurd (four_is_not_five (ap length e))
 drill_numbers rows name (of_batch plan) e = absurd (b_is_not_d (ap (λ (t : Text). slice_index t 0) e))
 drill_numbers rows name (of_emu steps) e = absurd (three_is_not_five (ap length e))
 drill_numbers rows name of_dump e = absurd (four_is_not_five (ap length e))
@@ -123,17 +123,17 @@ seven_is_not_four e = absurd (omega arith)
 d_is_not_s : ◌≡◌ {A = ℕ} 100 115 → ⊥
 d_is_not_s e = absurd (omega arith)
 
-pub show_options : (rows : List Row) (name : Text) → HasNumbers rows name → name ≡ codes "show" → HasWord (codes "pass") rows × HasPlan rows
-show_options rows name (of_build plan) e = absurd (five_is_not_four (ap length e))
-show_options rows name (of_run plan steps) e = absurd (three_is_not_four (ap length e))
-show_options rows name (of_show word plan) e = (word, plan)
-show_options rows name (of_batch plan) e = absurd (five_is_not_four (ap length e))
-show_options rows name (of_emu steps) e = absurd (three_is_not_four (ap length e))
-show_options rows name of_dump e = absurd (d_is_not_s (ap (λ (t : Text). slice_index t 0) e))
-show_options rows name of_asm e = absurd (three_is_not_four (ap length e))
-show_options rows name of_table e = absurd (five_is_not_four (ap length e))
-show_options rows name (of_drill text plan) e = absurd (five_is_not_four (ap length e))
-show_options rows name (of_explain code) e = absurd (seven_is_not_four (ap length e))
+pub show_plan : (rows : List Row) (name : Text) → HasNumbers rows name → name ≡ codes "show" → HasPlan rows
+show_plan rows name (of_build plan) e = absurd (five_is_not_four (ap length e))
+show_plan rows name (of_run plan steps) e = absurd (three_is_not_four (ap length e))
+show_plan rows name (of_show plan) e = plan
+show_plan rows name (of_batch plan) e = absurd (five_is_not_four (ap length e))
+show_plan rows name (of_emu steps) e = absurd (three_is_not_four (ap length e))
+show_plan rows name of_dump e = absurd (d_is_not_s (ap (λ (t : Text). slice_index t 0) e))
+show_plan rows name of_asm e = absurd (three_is_not_four (ap length e))
+show_plan rows name of_table e = absurd (five_is_not_four (ap length e))
+show_plan rows name (of_drill text plan) e = absurd (five_is_not_four (ap length e))
+show_plan rows name (of_explain code) e = absurd (seven_is_not_four (ap length e))
 
 three_is_not_seven : ◌≡◌ {A = ℕ} 3 7 → ⊥
 three_is_not_seven e = absurd (omega arith)
@@ -147,7 +147,7 @@ five_is_not_seven e = absurd (omega arith)
 pub explain_code : (rows : List Row) (name : Text) → HasNumbers rows name → name ≡ codes "explain" → HasNumber (codes "code") 0 4294967295 rows
 explain_code rows name (of_build plan) e = absurd (five_is_not_seven (ap length e))
 explain_code rows name (of_run plan steps) e = absurd (three_is_not_seven (ap length e))
-explain_code rows name (of_show word plan) e = absurd (four_is_not_seven (ap length e))
+explain_code rows name (of_show plan) e = absurd (four_is_not_seven (ap length e))
 explain_code rows name (of_batch plan) e = absurd (five_is_not_seven (ap length e))
 explain_code rows name (of_emu steps) e = absurd (three_is_not_seven (ap length e))
 explain_code rows name of_dump e = absurd (four_is_not_seven (ap length e))

@@ -13,8 +13,8 @@ use Rattle.clap.specs.Simple.{Shape, argument_words, built, entered, filled, wit
 use Rattle.clap.specs.Walk.{Text, Rule, Row, Held, Names, Outcome, done, waits, plain, refused, Step, next, trailing, subcommand, value, Waiting, idle, option, positional, Walk, answers_to, arg_by_index, plain_word, after_flag, long_or_other, short_or_plain, subcommand_met, subcommand_or_other, word_met, to_positional, after_step, walked_from, walked, walk, walk_from, settled, finished, nothing_held, rows_after}
 use Rattle.clap.specs.Faults.{walk_fault, turn_fault, word_fault, other_fault, step_fault, settle_fault, defaults_fault, check_fault, level_fault, entered_fault, built_fault, fault_of}
 use Rattle.clap.proofs.ValueTestLemmas.{accepts-Accepts}
-use Rattle.command_line.specs.Words.{app, value_option, with_default, required, workers_option, chunk_option, steps_option, fold_option, seed_option, functions_option, pass_option, code_value}
-use Rattle.command_line.specs.Ranges.{HasNumber, HasPlan, HasSteps, HasCode, HasText, HasWord, HasNumbers, of_build, of_run, of_show, of_batch, of_emu, of_dump, of_asm, of_table, of_drill, of_explain}
+use Rattle.command_line.specs.Words.{app, value_option, with_default, required, workers_option, chunk_option, steps_option, fold_option, seed_option, functions_option, pass_option, html_option, code_value}
+use Rattle.command_line.specs.Ranges.{HasNumber, HasPlan, HasSteps, HasCode, HasText, HasNumbers, of_build, of_run, of_show, of_batch, of_emu, of_dump, of_asm, of_table, of_drill, of_explain}
 use Rattle.command_line.proofs.Rows.{both_none, AreOptions, IsOption}
 use Rattle.command_line.proofs.Levels.{IsThere, here, wanted, later, level_value}
 
@@ -30,6 +30,7 @@ tested id text =
     else if bytes_eq id (codes "code") then is_unsigned_in 100 999 text
     else if bytes_eq id (codes "pass") then true
     else if bytes_eq id (codes "fold") then accepts false parsers.Bool text
+    else if bytes_eq id (codes "html") then accepts false parsers.Bool text
     else is_unsigned_in 0 1000000000 text
 
 number_of : (s : Shape) (words : List Text) (id : Text) (low high : ℕ) → AreOptions tested s.rules → IsThere id s.rules
@@ -56,10 +57,6 @@ text_of_words s words options seed functions f =
 code_of_words : (s : Shape) (words : List Text) → AreOptions tested s.rules → IsThere (codes "code") s.rules
     → level_fault s [] nothing_held words false [] ≡ [] → HasCode (rows_after s.rules [] words)
 code_of_words s words options code f = number_of s words (codes "code") 100 999 options code (λ t. refl) f
-
-word_of_words : (s : Shape) (words : List Text) → AreOptions tested s.rules → IsThere (codes "pass") s.rules
-    → level_fault s [] nothing_held words false [] ≡ [] → HasWord (codes "pass") (rows_after s.rules [] words)
-word_of_words s words options pass f = let got = level_value tested s words (codes "pass") options pass f in record { text = got.0; is_first = got.1 }
 
 -- ---- no word before the subcommand asks for help
 
@@ -209,6 +206,9 @@ functions_is = is_required (codes "functions") 1 4096 (λ t. refl)
 pass_is : IsOption tested (with_index 1 (filled pass_option))
 pass_is = inl (record { sets = refl; one = refl; tested = λ t. refl })
 
+html_is : IsOption tested (with_index 1 (filled html_option))
+html_is = inr (inl (record { sets = refl; none = refl; text = codes "true"; used_for = refl; tested = λ t. refl }))
+
 code_is : IsOption tested (with_index 1 (filled code_value))
 code_is = inl (record { sets = refl; one = refl; tested = λ t. refl })
 
@@ -231,7 +231,7 @@ explain_options : AreOptions tested (built_sub 8).rules
 explain_options = (code_is, (inr (inr refl), tt))
 
 show_options : AreOptions tested (built_sub 9).rules
-show_options = (pass_is, (workers_is, (chunk_is, (inr (inr refl), tt))))
+show_options = (pass_is, (html_is, (workers_is, (chunk_is, (inr (inr refl), tt)))))
 
 build_takes : (word : Text) → Takes word (built_sub 0)
 build_takes word words e f = of_build (plan_of_words (built_sub 0) words plan_options (here _ refl refl) (later (here _ refl refl)) f)
@@ -265,9 +265,7 @@ explain_takes : (word : Text) → Takes word (built_sub 8)
 explain_takes word words e f = of_explain (code_of_words (built_sub 8) words explain_options (wanted refl refl) f)
 
 show_takes : (word : Text) → Takes word (built_sub 9)
-show_takes word words e f =
-    of_show (word_of_words (built_sub 9) words show_options (wanted refl refl) f)
-    (plan_of_words (built_sub 9) words show_options (later (here _ refl refl)) (later (later (here _ refl refl))) f)
+show_takes word words e f = of_show (plan_of_words (built_sub 9) words show_options (later (later (here _ refl refl))) (later (later (later (here _ refl refl)))) f)
 
 all_take : (word : Text) → bytes_eq word (codes "help") ≡ false → AllShapes (Takes word) (built app).subs
 all_take word other =

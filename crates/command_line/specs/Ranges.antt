@@ -21,16 +21,11 @@ HasCode rows = HasNumber (codes "code") 100 999 rows
 abbrev pub HasText : List Row → Type 0
 HasText rows = HasNumber (codes "seed") 0 4294967295 rows × HasNumber (codes "functions") 1 4096 rows
 
--- the option has a text
-pub record HasWord (name : Text) (rows : List Row) : Type 0 where
-  pub text : Text
-  pub is_first : first_of name rows ≡ Some text
-
 -- a subcommand and its options
 pub data HasNumbers (rows : List Row) : Text → Type 0 where
   of_build : HasPlan rows → HasNumbers rows (codes "build")
   of_run : HasPlan rows → HasSteps rows → HasNumbers rows (codes "run")
-  of_show : HasWord (codes "pass") rows → HasPlan rows → HasNumbers rows (codes "show")
+  of_show : HasPlan rows → HasNumbers rows (codes "show")
   of_batch : HasPlan rows → HasNumbers rows (codes "batch")
   of_emu : HasSteps rows → HasNumbers rows (codes "emu")
   of_dump : HasNumbers rows (codes "dump")

@@ -9,9 +9,9 @@ use Rattle.clap.specs.declared.builder.action.ArgAction.TheVariants.{Set, SetTru
 use Rattle.clap.specs.declared.builder.value_parser.ValueParser.{ValueParser}
 use Rattle.clap.specs.declared.builder.value_parser.ValueParser.TheVariants as parsers
 use Rattle.command_line.specs.declared.command.Command.{Command}
-use Rattle.command_line.specs.declared.command.Command.TheVariants.{Build, Run, Show, Batch, Emu, Dump, Asm, Table, Drill, Explain}
+use Rattle.command_line.specs.declared.command.Command.TheVariants.{Build, Run, Show, Page, Batch, Emu, Dump, Asm, Table, Drill, Explain}
 use Rattle.command_line.specs.declared.command.Pass.{Pass}
-use Rattle.command_line.specs.declared.command.Pass.TheVariants.{Tokens, Parse, Rows, Names, Types, Frames, Code, All}
+use Rattle.command_line.specs.declared.command.Pass.TheVariants.{Tokens, Parse, Rows, Names, Types, Frames, Places, Code, All}
 use Rattle.diagnostic_texts.specs.Explained.{explanation_of}
 
 -- ---- the command
@@ -34,6 +34,10 @@ with_default option default = record option { defaults = default ∷ [] }
 abbrev pub required : Rule → Rule
 required option = record option { required = true }
 
+-- a flag `--name`: given or not, with no value
+abbrev pub flag_option : Text → Rule
+flag_option name = record (new_rule name) { long = Some name; action = Some SetTrue }
+
 abbrev pub workers_option : Rule
 workers_option = with_default (value_option (codes "workers") (parsers.Unsigned 1 64)) (codes "4")
 
@@ -43,9 +47,8 @@ chunk_option = with_default (value_option (codes "chunk") (parsers.Unsigned 1 65
 abbrev pub steps_option : Rule
 steps_option = with_default (value_option (codes "steps") (parsers.Unsigned 0 1000000000)) (codes "1000000")
 
--- a flag: given or not, with no value
 abbrev pub fold_option : Rule
-fold_option = record (new_rule (codes "fold")) { long = Some (codes "fold"); action = Some SetTrue }
+fold_option = flag_option (codes "fold")
 
 abbrev pub seed_option : Rule
 seed_option = required (value_option (codes "seed") (parsers.Unsigned 0 4294967295))
@@ -57,9 +60,15 @@ functions_option = required (value_option (codes "functions") (parsers.Unsigned 
 abbrev pub word_option : Rule
 word_option = value_option (codes "word") parsers.String
 
+abbrev pub entries_option : Rule
+entries_option = flag_option (codes "entries")
+
 -- any text is taken, and is asked afterwards whether it names a pass
 abbrev pub pass_option : Rule
-pass_option = required (value_option (codes "pass") parsers.String)
+pass_option = value_option (codes "pass") parsers.String
+
+abbrev pub html_option : Rule
+html_option = flag_option (codes "html")
 
 -- a code is three digits
 abbrev pub code_value : Rule
@@ -87,7 +96,7 @@ abbrev pub asm_shape : Shape
 asm_shape = subcommand (codes "asm") []
 
 abbrev pub table_shape : Shape
-table_shape = subcommand (codes "table") (word_option ∷ [])
+table_shape = subcommand (codes "table") (word_option ∷ entries_option ∷ [])
 
 abbrev pub drill_shape : Shape
 drill_shape = subcommand (codes "drill") (seed_option ∷ functions_option ∷ workers_option ∷ chunk_option ∷ [])
@@ -96,10 +105,7 @@ abbrev pub explain_shape : Shape
 explain_shape = subcommand (codes "explain") (code_value ∷ [])
 
 abbrev pub show_shape : Shape
-show_shape = subcommand (codes "show") (pass_option ∷ workers_option ∷ chunk_option ∷ [])
-
-abbrev pub with_three : App → Shape → Shape → Shape → App
-with_three command one two three = with_subcommand (with_subcommand (with_subcommand command one) two) three
+show_shape = subcommand (codes "show") (pass_option ∷ html_option ∷ workers_option ∷ chunk_option ∷ [])
 
 -- `pareas` before it has subcommands, of which one is required
 abbrev pub bare_app : App
@@ -134,13 +140,20 @@ pass_named word =
     else if bytes_eq word (codes "names") then Some Names
     else if bytes_eq word (codes "types") then Some Types
     else if bytes_eq word (codes "frames") then Some Frames
+    else if bytes_eq word (codes "places") then Some Places
     else if bytes_eq word (codes "code") then Some Code
     else if bytes_eq word (codes "all") then Some All
     else None
 
--- the pass of the option
-abbrev pub pass_at : List Row → Option Pass
-pass_at rows = option_and_then pass_named (first_of (codes "pass") rows)
+-- what is to be shown: the page where it is asked for and no word for a pass is given, and else the pass that a word names
+abbrev pub view_of : Bool → Option Text → Option Command
+view_of true None = Some Page
+view_of true (Some word) = None
+view_of false word = option_map (λ pass. Show pass) (option_and_then pass_named word)
+
+-- the same by the options
+abbrev pub view_at : List Row → Option Command
+view_at rows = view_of (flag_at (codes "html") rows) (first_of (codes "pass") rows)
 
 -- a command, and how its work is shared out
 pub record Asked : Type 0 where
@@ -152,19 +165,19 @@ abbrev pub shared_out : Command → List Row → Asked
 shared_out command rows =
     record { command = command; workers = number_at (codes "workers") rows; chunk = number_at (codes "chunk") rows }
 
--- what a subcommand asks for with its options, unless it is to show what is no pass; `emu`, `dump`, `asm`, `table` and `explain` have no options for sharing
+-- what a subcommand asks for with its options, unless it is to show neither the page nor a pass; `emu`, `dump`, `asm`, `table` and `explain` have no options for sharing
 abbrev pub asked_by : Text → List Row → Option Asked
 asked_by name rows =
     if bytes_eq name (codes "build") then Some (shared_out (Build (flag_at (codes "fold") rows)) rows)
     else if bytes_eq name (codes "run") then Some (shared_out (Run (number_at (codes "steps") rows) (flag_at (codes "fold") rows)) rows)
-    else if bytes_eq name (codes "show") then option_map (λ pass. shared_out (Show pass) rows) (pass_at rows)
+    else if bytes_eq name (codes "show") then option_map (λ view. shared_out view rows) (view_at rows)
     else if bytes_eq name (codes "batch") then Some (shared_out Batch rows)
     else if bytes_eq name (codes "emu") then Some (record { command = Emu (number_at (codes "steps") rows); workers = 1; chunk = 1 })
     else if bytes_eq name (codes "dump") then Some (record { command = Dump; workers = 1; chunk = 1 })
     else if bytes_eq name (codes "asm") then Some (record { command = Asm; workers = 1; chunk = 1 })
     else if bytes_eq name (codes "drill") then Some (shared_out (Drill (number_at (codes "seed") rows) (number_at (codes "functions") rows)) rows)
     else if bytes_eq name (codes "explain") then Some (record { command = Explain (number_at (codes "code") rows); workers = 1; chunk = 1 })
-    else Some (record { command = Table (first_of (codes "word") rows); workers = 1; chunk = 1 })
+    else Some (record { command = Table (first_of (codes "word") rows) (flag_at (codes "entries") rows); workers = 1; chunk = 1 })
 
 -- the code that is to be explained, where no diagnostic has it
 abbrev pub unknown_code : Command → Option ℕ
@@ -175,7 +188,7 @@ unknown_code command = None
 abbrev pub known : Asked → Option Asked
 known a = if is_some (unknown_code a.command) then None else Some a
 
--- what words ask for, of which the first is the program's name; none exactly where clap finds a fault in them, or a code or a pass isn't known
+-- what words ask for, of which the first is the program's name; none exactly where clap finds a fault in them, a code isn't known, or nothing is to be shown
 abbrev pub asked : List Text → Option Asked
 asked words = if is_empty (fault_of app words) then option_and_then (λ s. option_and_then known (asked_by s.0 s.1)) (subcommand_of app words) else None
 
@@ -185,13 +198,11 @@ pub record IsNoCode (words : List Text) : Type 0 where
   pub explains : subcommand_of app words ≡ Some (codes "explain", options)
   pub is_none : explanation_of (number_at (codes "code") options) ≡ None
 
--- or to show what is no pass
-pub record IsNoPass (words : List Text) : Type 0 where
+-- or to show what is neither the page nor a pass
+pub record IsNoView (words : List Text) : Type 0 where
   pub options : List Row
-  pub word : Text
   pub shows : subcommand_of app words ≡ Some (codes "show", options)
-  pub is_word : first_of (codes "pass") options ≡ Some word
-  pub is_none : pass_named word ≡ None
+  pub is_none : view_at options ≡ None
 
 -- their command alone: what is due depends on nothing else in them
 abbrev pub command_of : List Text → Option Command

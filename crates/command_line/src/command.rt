@@ -17,6 +17,8 @@ pub enum Pass {
     Types,
     /// The frames of the functions.
     Frames,
+    /// The places of the rows' words in the code.
+    Places,
     /// The words of the code.
     Code,
     /// All of these, one behind the other.
@@ -43,6 +45,8 @@ pub enum Command {
         /// The pass.
         pass: Pass,
     },
+    /// Shows the source, its syntax tree and the arrays of all passes as one page of HTML.
+    Page,
     /// Compiles each of the sources on the input, which stand there as records, and writes an answer for each.
     Batch,
     /// Runs the executable file on the input on the machine for at most `steps` steps.
@@ -58,6 +62,8 @@ pub enum Command {
     Table {
         /// The word, where one is to be parsed.
         word: Option<Word>,
+        /// Whether the entries of the tables are listed.
+        entries: bool,
     },
     /// Makes a source text from a seed, compiles it, runs its file on the machine for a million steps, and tells how large all
     /// became and how the run ended. It reads no input.

@@ -1,16 +1,17 @@
-// The command, its subcommands and options, as `clap` builds them. Each is a large value that is moved at every step: a builder has a stack frame of
-// its own, so that what it takes of the stack is given back before the next one begins.
+// The command, its subcommands and options, as `clap` builds them. Each is a large value that is moved at every step. So a command stands on the heap while
+// it grows, and what moves it has a stack frame of its own, which is given back before the next step begins.
 
-ghost use Rattle.std.specs.Prelude.{◌≡◌, IfOk, false};
-ghost use Rattle.clap.specs.Simple.{with_subcommand};
+ghost use Rattle.std.specs.Prelude.{◌≡◌, IfOk, false, true};
+ghost use Rattle.clap.specs.Simple.{new_app, with_rule, with_subcommand};
 ghost use Rattle.clap.specs.Words.{app_of, rule_of, shape_of};
-ghost use Rattle.command_line.specs.Words.{app, with_three, bare_app, build_shape, run_shape, batch_shape, emu_shape, dump_shape, asm_shape, table_shape, drill_shape, explain_shape, show_shape, pass_option, workers_option, chunk_option, steps_option, fold_option, seed_option, functions_option, word_option, code_value, plain_value, value_option, with_default, required};
+ghost use Rattle.command_line.specs.Words.{app, bare_app, build_shape, run_shape, batch_shape, emu_shape, dump_shape, asm_shape, table_shape, drill_shape, explain_shape, show_shape, pass_option, workers_option, chunk_option, steps_option, fold_option, seed_option, functions_option, word_option, entries_option, html_option, code_value, plain_value, value_option, with_default, required, flag_option};
 
 use clap::builder::ValueParser;
 use clap::{Arg, ArgAction, Command, value_parser};
 use std::alloc::{AllocError, Global};
 
 // A value that stands by itself.
+#[inline(never)]
 fn plain_value<'a>(
     alloc: Global,
     name: &'a str,
@@ -29,6 +30,7 @@ fn plain_value<'a>(
 }
 
 // An option `--name N` with a value.
+#[inline(never)]
 fn value_option<'a>(
     alloc: Global,
     name: &'a str,
@@ -43,6 +45,7 @@ fn value_option<'a>(
 }
 
 // An option with a number, and its default.
+#[inline(never)]
 fn default_option<'a>(
     alloc: Global,
     name: &'a str,
@@ -57,7 +60,20 @@ fn default_option<'a>(
     value_option(alloc, name, letter, numbers, help).default_value(default)
 }
 
+// A flag `--name`.
+#[inline(never)]
+fn flag_option<'a>(alloc: Global, name: &'a str, help: &'a str) -> Arg<'a>
+    ensures rule { rule_of result ≡ flag_option name.entry.now }
+    ensures local { result.global ≡ false }
+{
+    Arg::new(alloc, name)
+        .long(name)
+        .action(ArgAction::SetTrue)
+        .help(help)
+}
+
 // A number that stands by itself, and has to be given.
+#[inline(never)]
 fn required_value<'a>(
     alloc: Global,
     name: &'a str,
@@ -72,6 +88,7 @@ fn required_value<'a>(
 }
 
 // An option with a value, which has to be given.
+#[inline(never)]
 fn required_option<'a>(
     alloc: Global,
     name: &'a str,
@@ -85,6 +102,7 @@ fn required_option<'a>(
     value_option(alloc, name, letter, numbers, help).required(true)
 }
 
+#[inline(never)]
 fn workers<'a>(alloc: Global) -> Arg<'a>
     ensures rule { rule_of result ≡ workers_option }
     ensures local { result.global ≡ false }
@@ -94,6 +112,7 @@ fn workers<'a>(alloc: Global) -> Arg<'a>
     default_option(alloc, "workers", "N", numbers, "4", help)
 }
 
+#[inline(never)]
 fn chunk<'a>(alloc: Global) -> Arg<'a>
     ensures rule { rule_of result ≡ chunk_option }
     ensures local { result.global ≡ false }
@@ -103,6 +122,7 @@ fn chunk<'a>(alloc: Global) -> Arg<'a>
     default_option(alloc, "chunk", "C", numbers, "1024", help)
 }
 
+#[inline(never)]
 fn steps<'a>(alloc: Global) -> Arg<'a>
     ensures rule { rule_of result ≡ steps_option }
     ensures local { result.global ≡ false }
@@ -112,16 +132,15 @@ fn steps<'a>(alloc: Global) -> Arg<'a>
     default_option(alloc, "steps", "M", numbers, "1000000", help)
 }
 
+#[inline(never)]
 fn fold<'a>(alloc: Global) -> Arg<'a>
     ensures rule { rule_of result ≡ fold_option }
     ensures local { result.global ≡ false }
 {
-    Arg::new(alloc, "fold")
-        .long("fold")
-        .action(ArgAction::SetTrue)
-        .help("Fold the constants of the program")
+    flag_option(alloc, "fold", "Fold the constants of the program")
 }
 
+#[inline(never)]
 fn seed<'a>(alloc: Global) -> Arg<'a>
     ensures rule { rule_of result ≡ seed_option }
     ensures local { result.global ≡ false }
@@ -131,6 +150,7 @@ fn seed<'a>(alloc: Global) -> Arg<'a>
     required_option(alloc, "seed", "S", numbers, help)
 }
 
+#[inline(never)]
 fn functions<'a>(alloc: Global) -> Arg<'a>
     ensures rule { rule_of result ≡ functions_option }
     ensures local { result.global ≡ false }
@@ -140,6 +160,7 @@ fn functions<'a>(alloc: Global) -> Arg<'a>
     required_option(alloc, "functions", "K", numbers, help)
 }
 
+#[inline(never)]
 fn word<'a>(alloc: Global) -> Arg<'a>
     ensures rule { rule_of result ≡ word_option }
     ensures local { result.global ≡ false }
@@ -148,15 +169,35 @@ fn word<'a>(alloc: Global) -> Arg<'a>
     value_option(alloc, "word", "W", value_parser!(String), help)
 }
 
+#[inline(never)]
+fn entries<'a>(alloc: Global) -> Arg<'a>
+    ensures rule { rule_of result ≡ entries_option }
+    ensures local { result.global ≡ false }
+{
+    let help = "List the entries of the tables, a line each";
+    flag_option(alloc, "entries", help)
+}
+
+#[inline(never)]
 fn pass<'a>(alloc: Global) -> Arg<'a>
     ensures rule { rule_of result ≡ pass_option }
     ensures local { result.global ≡ false }
 {
     let help =
-        "Pass whose arrays are shown [possible values: tokens, parse, rows, names, types, frames, code, all]";
-    required_option(alloc, "pass", "PASS", value_parser!(String), help)
+        "Pass whose arrays are shown [possible values: tokens, parse, rows, names, types, frames, places, code, all]";
+    value_option(alloc, "pass", "PASS", value_parser!(String), help)
 }
 
+#[inline(never)]
+fn html<'a>(alloc: Global) -> Arg<'a>
+    ensures rule { rule_of result ≡ html_option }
+    ensures local { result.global ≡ false }
+{
+    let help = "Print one page of HTML with the arrays of all passes";
+    flag_option(alloc, "html", help)
+}
+
+#[inline(never)]
 fn code<'a>(alloc: Global) -> Arg<'a>
     ensures rule { rule_of result ≡ code_value }
     ensures local { result.global ≡ false }
@@ -166,184 +207,212 @@ fn code<'a>(alloc: Global) -> Arg<'a>
     required_value(alloc, "code", "CODE", numbers, help)
 }
 
+// The command, on the heap.
 #[inline(never)]
-fn build<'a>(alloc: Global) -> Result<Command<'a>, AllocError>
-    ensures { IfOk result (λ c. shape_of c ≡ build_shape) }
+fn boxed<'a>(alloc: Global, command: Command<'a>) -> Result<Box<Command<'a>>, AllocError>
+    ensures { IfOk result (λ b. b.value ≡ command.entry) }
 {
-    Command::new(alloc, "build")
-        .about(
-            "Compiles a program: source on standard input, ELF file for RV32IM on standard output",
-        )
-        .arg(workers(alloc))?
-        .arg(chunk(alloc))?
-        .arg(fold(alloc))
+    Ok(Box::new(alloc, command)?)
+}
+
+// A command without options.
+#[inline(never)]
+fn named<'a>(alloc: Global, name: &'a str, about: &'a str) -> Result<Box<Command<'a>>, AllocError>
+    ensures { IfOk result (λ c. app_of c.value ≡ new_app name.entry.now) }
+{
+    boxed(alloc, Command::new(alloc, name).about(about))
+}
+
+// The command with one option more.
+#[inline(never)]
+fn with_option<'a>(
+    alloc: Global,
+    command: Box<Command<'a>>,
+    option: Arg<'a>,
+) -> Result<Box<Command<'a>>, AllocError>
+    requires { option.global ≡ false }
+    ensures { IfOk result (λ c. app_of c.value ≡ with_rule (app_of command.entry.value) (rule_of option.entry)) }
+{
+    boxed(alloc, Box::into_inner(command).arg(option)?)
+}
+
+// The command with one subcommand more.
+#[inline(never)]
+fn with_command<'a>(
+    alloc: Global,
+    command: Box<Command<'a>>,
+    subcommand: Box<Command<'a>>,
+) -> Result<Box<Command<'a>>, AllocError>
+    requires { (shape_of subcommand.value).is_plain ≡ true }
+    ensures { IfOk result (λ c. app_of c.value ≡ with_subcommand (app_of command.entry.value) (shape_of subcommand.entry.value)) }
+{
+    boxed(
+        alloc,
+        Box::into_inner(command).subcommand(Box::into_inner(subcommand))?,
+    )
 }
 
 #[inline(never)]
-fn run<'a>(alloc: Global) -> Result<Command<'a>, AllocError>
-    ensures { IfOk result (λ c. shape_of c ≡ run_shape) }
+fn build<'a>(alloc: Global) -> Result<Box<Command<'a>>, AllocError>
+    ensures { IfOk result (λ c. shape_of c.value ≡ build_shape) }
 {
-    Command::new(alloc, "run")
-        .about(
-            "Compiles a program from standard input and runs it on the emulator: prints its output and how it ends",
-        )
-        .arg(workers(alloc))?
-        .arg(chunk(alloc))?
-        .arg(steps(alloc))?
-        .arg(fold(alloc))
+    let command = named(
+        alloc,
+        "build",
+        "Compiles a program: source on standard input, ELF file for RV32IM on standard output",
+    )?;
+    let command = with_option(alloc, command, workers(alloc))?;
+    let command = with_option(alloc, command, chunk(alloc))?;
+    with_option(alloc, command, fold(alloc))
 }
 
 #[inline(never)]
-fn batch<'a>(alloc: Global) -> Result<Command<'a>, AllocError>
-    ensures { IfOk result (λ c. shape_of c ≡ batch_shape) }
+fn run<'a>(alloc: Global) -> Result<Box<Command<'a>>, AllocError>
+    ensures { IfOk result (λ c. shape_of c.value ≡ run_shape) }
 {
-    Command::new(alloc, "batch")
-        .about(
-            "Compiles many programs: sources on standard input, each behind its length, an ELF file or a diagnostic for each on standard output",
-        )
-        .arg(workers(alloc))?
-        .arg(chunk(alloc))
+    let command = named(
+        alloc,
+        "run",
+        "Compiles a program from standard input and runs it on the emulator: prints its output and how it ends",
+    )?;
+    let command = with_option(alloc, command, workers(alloc))?;
+    let command = with_option(alloc, command, chunk(alloc))?;
+    let command = with_option(alloc, command, steps(alloc))?;
+    with_option(alloc, command, fold(alloc))
 }
 
 #[inline(never)]
-fn emu<'a>(alloc: Global) -> Result<Command<'a>, AllocError>
-    ensures { IfOk result (λ c. shape_of c ≡ emu_shape) }
+fn batch<'a>(alloc: Global) -> Result<Box<Command<'a>>, AllocError>
+    ensures { IfOk result (λ c. shape_of c.value ≡ batch_shape) }
 {
-    Command::new(alloc, "emu")
-        .about(
-            "Runs an ELF file for RV32IM from standard input on the emulator: prints its output and how it ends",
-        )
-        .arg(steps(alloc))
+    let command = named(
+        alloc,
+        "batch",
+        "Compiles many programs: sources on standard input, each behind its length, an ELF file or a diagnostic for each on standard output",
+    )?;
+    let command = with_option(alloc, command, workers(alloc))?;
+    with_option(alloc, command, chunk(alloc))
 }
 
 #[inline(never)]
-fn dump<'a>(alloc: Global) -> Command<'a>
-    ensures { shape_of result ≡ dump_shape }
+fn emu<'a>(alloc: Global) -> Result<Box<Command<'a>>, AllocError>
+    ensures { IfOk result (λ c. shape_of c.value ≡ emu_shape) }
 {
-    Command::new(alloc, "dump").about(
+    let command = named(
+        alloc,
+        "emu",
+        "Runs an ELF file for RV32IM from standard input on the emulator: prints its output and how it ends",
+    )?;
+    with_option(alloc, command, steps(alloc))
+}
+
+#[inline(never)]
+fn dump<'a>(alloc: Global) -> Result<Box<Command<'a>>, AllocError>
+    ensures { IfOk result (λ c. shape_of c.value ≡ dump_shape) }
+{
+    named(
+        alloc,
+        "dump",
         "Lists the code of an ELF file for RV32IM from standard input: prints a line for each word",
     )
 }
 
 #[inline(never)]
-fn asm<'a>(alloc: Global) -> Command<'a>
-    ensures { shape_of result ≡ asm_shape }
+fn asm<'a>(alloc: Global) -> Result<Box<Command<'a>>, AllocError>
+    ensures { IfOk result (λ c. shape_of c.value ≡ asm_shape) }
 {
-    Command::new(alloc, "asm").about(
+    named(
+        alloc,
+        "asm",
         "Assembles a listing as `dump` prints it: lines on standard input, ELF file for RV32IM on standard output",
     )
 }
 
 #[inline(never)]
-fn table<'a>(alloc: Global) -> Result<Command<'a>, AllocError>
-    ensures { IfOk result (λ c. shape_of c ≡ table_shape) }
+fn table<'a>(alloc: Global) -> Result<Box<Command<'a>>, AllocError>
+    ensures { IfOk result (λ c. shape_of c.value ≡ table_shape) }
 {
-    Command::new(alloc, "table")
-        .about(
-            "Makes the LLP tables of a grammar from standard input: prints their sizes and the parse of a word, or a conflict",
-        )
-        .arg(word(alloc))
+    let command = named(
+        alloc,
+        "table",
+        "Makes the LLP tables of a grammar from standard input: prints their sizes and the parse of a word, or a conflict",
+    )?;
+    let command = with_option(alloc, command, word(alloc))?;
+    with_option(alloc, command, entries(alloc))
 }
 
 #[inline(never)]
-fn drill<'a>(alloc: Global) -> Result<Command<'a>, AllocError>
-    ensures { IfOk result (λ c. shape_of c ≡ drill_shape) }
+fn drill<'a>(alloc: Global) -> Result<Box<Command<'a>>, AllocError>
+    ensures { IfOk result (λ c. shape_of c.value ≡ drill_shape) }
 {
-    Command::new(alloc, "drill")
-        .about(
-            "Compiles and runs a program made from a seed, as in `pareas drill --seed 1 --functions 2`: prints sizes and how it ends, reads no input",
-        )
-        .arg(seed(alloc))?
-        .arg(functions(alloc))?
-        .arg(workers(alloc))?
-        .arg(chunk(alloc))
+    let command = named(
+        alloc,
+        "drill",
+        "Compiles and runs a program made from a seed, as in `pareas drill --seed 1 --functions 2`: prints sizes and how it ends, reads no input",
+    )?;
+    let command = with_option(alloc, command, seed(alloc))?;
+    let command = with_option(alloc, command, functions(alloc))?;
+    let command = with_option(alloc, command, workers(alloc))?;
+    with_option(alloc, command, chunk(alloc))
 }
 
 #[inline(never)]
-fn explain<'a>(alloc: Global) -> Result<Command<'a>, AllocError>
-    ensures { IfOk result (λ c. shape_of c ≡ explain_shape) }
+fn explain<'a>(alloc: Global) -> Result<Box<Command<'a>>, AllocError>
+    ensures { IfOk result (λ c. shape_of c.value ≡ explain_shape) }
 {
-    Command::new(alloc, "explain")
-        .about(
-            "Explains a diagnostic, as in `pareas explain 504`: prints what it means, a source that has it and how it is mended, reads no input",
-        )
-        .arg(code(alloc))
+    let command = named(
+        alloc,
+        "explain",
+        "Explains a diagnostic, as in `pareas explain 504`: prints what it means, a source that has it and how it is mended, reads no input",
+    )?;
+    with_option(alloc, command, code(alloc))
 }
 
 #[inline(never)]
-fn show<'a>(alloc: Global) -> Result<Command<'a>, AllocError>
-    ensures { IfOk result (λ c. shape_of c ≡ show_shape) }
+fn show<'a>(alloc: Global) -> Result<Box<Command<'a>>, AllocError>
+    ensures { IfOk result (λ c. shape_of c.value ≡ show_shape) }
 {
-    Command::new(alloc, "show")
-        .about(
-            "Shows what a pass makes of a program from standard input, as in `pareas show --pass rows`: prints its arrays as tables",
-        )
-        .arg(pass(alloc))?
-        .arg(workers(alloc))?
-        .arg(chunk(alloc))
+    let command = named(
+        alloc,
+        "show",
+        "Shows what a pass makes of a program from standard input, as in `pareas show --pass rows`: prints its arrays as tables",
+    )?;
+    let command = with_option(alloc, command, pass(alloc))?;
+    let command = with_option(alloc, command, html(alloc))?;
+    let command = with_option(alloc, command, workers(alloc))?;
+    with_option(alloc, command, chunk(alloc))
 }
 
 // The command before it has subcommands.
 #[inline(never)]
-fn bare<'a>(alloc: Global) -> Command<'a>
-    ensures { app_of result ≡ bare_app }
+fn bare<'a>(alloc: Global) -> Result<Box<Command<'a>>, AllocError>
+    ensures { IfOk result (λ c. app_of c.value ≡ bare_app) }
 {
-    Command::new(alloc, "pareas")
-        .version("0.1.0")
-        .about(
-            "A parallel compiler of a small C-like language to RV32IM, proved correct, and an emulator",
-        )
-        .subcommand_required(true)
-}
-
-// The same with the subcommands that compile. Three are added in a stack frame of their own.
-#[inline(never)]
-fn with_compilers<'a>(alloc: Global, command: Command<'a>) -> Result<Command<'a>, AllocError>
-    ensures { IfOk result (λ c. app_of c ≡ with_three (app_of command.entry) build_shape run_shape batch_shape) }
-{
-    command
-        .subcommand(build(alloc)?)?
-        .subcommand(run(alloc)?)?
-        .subcommand(batch(alloc)?)
-}
-
-// The same with the subcommands about executable files.
-#[inline(never)]
-fn with_files<'a>(alloc: Global, command: Command<'a>) -> Result<Command<'a>, AllocError>
-    ensures { IfOk result (λ c. app_of c ≡ with_three (app_of command.entry) emu_shape dump_shape asm_shape) }
-{
-    command
-        .subcommand(emu(alloc)?)?
-        .subcommand(dump(alloc))?
-        .subcommand(asm(alloc))
-}
-
-// The same with the other subcommands.
-#[inline(never)]
-fn with_others<'a>(alloc: Global, command: Command<'a>) -> Result<Command<'a>, AllocError>
-    ensures { IfOk result (λ c. app_of c ≡ with_three (app_of command.entry) table_shape drill_shape explain_shape) }
-{
-    command
-        .subcommand(table(alloc)?)?
-        .subcommand(drill(alloc)?)?
-        .subcommand(explain(alloc)?)
-}
-
-// The same with the subcommand that shows passes.
-#[inline(never)]
-fn with_show<'a>(alloc: Global, command: Command<'a>) -> Result<Command<'a>, AllocError>
-    ensures { IfOk result (λ c. app_of c ≡ with_subcommand (app_of command.entry) show_shape) }
-{
-    command.subcommand(show(alloc)?)
+    boxed(
+        alloc,
+        Command::new(alloc, "pareas")
+            .version("0.1.0")
+            .about(
+                "A parallel compiler of a small C-like language to RV32IM, proved correct, and an emulator",
+            )
+            .subcommand_required(true),
+    )
 }
 
 /// The command line as `clap` reads it.
 #[inline(never)]
-pub(crate) fn command<'a>(alloc: Global) -> Result<Command<'a>, AllocError>
-    ensures { IfOk result (λ c. app_of c ≡ app) }
+pub(crate) fn command<'a>(alloc: Global) -> Result<Box<Command<'a>>, AllocError>
+    ensures { IfOk result (λ c. app_of c.value ≡ app) }
 {
-    let command = with_compilers(alloc, bare(alloc))?;
-    let command = with_files(alloc, command)?;
-    let command = with_others(alloc, command)?;
-    with_show(alloc, command)
+    let command = bare(alloc)?;
+    let command = with_command(alloc, command, build(alloc)?)?;
+    let command = with_command(alloc, command, run(alloc)?)?;
+    let command = with_command(alloc, command, batch(alloc)?)?;
+    let command = with_command(alloc, command, emu(alloc)?)?;
+    let command = with_command(alloc, command, dump(alloc)?)?;
+    let command = with_command(alloc, command, asm(alloc)?)?;
+    let command = with_command(alloc, command, table(alloc)?)?;
+    let command = with_command(alloc, command, drill(alloc)?)?;
+    let command = with_command(alloc, command, explain(alloc)?)?;
+    with_command(alloc, command, show(alloc)?)
 }

@@ -1,9 +1,9 @@
 // From the words to what they ask for.
 
-ghost use Rattle.std.specs.Prelude.{◌≡◌, Some, None, IfOk, map, string_bytes, codes, IfErr, option_and_then};
+ghost use Rattle.std.specs.Prelude.{◌≡◌, Some, None, IfOk, map, string_bytes, codes, IfErr, option_and_then, option_map};
 ghost use Rattle.clap.specs.Words.{first_of, found_of, rows_of, kind_of};
-ghost use Rattle.command_line.specs.Ranges.{HasNumber, HasPlan, HasSteps, HasNumbers, HasWord};
-ghost use Rattle.command_line.specs.Words.{asked, asked_by, known, number_at, flag_at, pass_at, pass_named, unknown_code};
+ghost use Rattle.command_line.specs.Ranges.{HasNumber, HasPlan, HasSteps, HasNumbers};
+ghost use Rattle.command_line.specs.Words.{asked, asked_by, known, number_at, flag_at, pass_named, unknown_code, view_at, view_of};
 ghost use Rattle.command_line.specs.Refused.{IsUsage};
 ghost use Rattle.clap.specs.declared.error.kind.ErrorKind.TheVariants as ErrorKind;
 
@@ -16,6 +16,14 @@ use clap::error::ErrorKind;
 use clap::{ArgMatches, Error};
 use diagnostic_texts::explanation_of;
 use std::alloc::{AllocError, Global};
+
+// The text that tells that nothing is to be shown, as `clap` spells it.
+const NO_VIEW: &str =
+    "error: the following required arguments were not provided:\n  --pass <PASS>\n\nUsage: pareas show --pass <PASS>\n\nFor more information, try '--help'.\n";
+
+// The text that tells that two things are to be shown, as `clap` spells it.
+const TWO_VIEWS: &str =
+    "error: the argument '--html' cannot be used with '--pass <PASS>'\n\nUsage: pareas show --html\n\nFor more information, try '--help'.\n";
 
 /// Why words ask for nothing.
 #[derive(Debug, Drop)]
@@ -92,26 +100,49 @@ fn pass_named(word: &str) -> Option<Pass>
         "names" => Some(Pass::Names),
         "types" => Some(Pass::Types),
         "frames" => Some(Pass::Frames),
+        "places" => Some(Pass::Places),
         "code" => Some(Pass::Code),
         "all" => Some(Pass::All),
         _ => None,
     }
 }
 
-// The pass that is to be shown, or what `clap` says of a value that isn't among the possible ones. Its own parser of such values holds a reference to
+// The pass that a word names, or what `clap` says of a value that isn't among the possible ones. Its own parser of such values holds a reference to
 // them, which no definition can name.
-fn pass(alloc: Global, options: &ArgMatches<'_>) -> Result<Pass, Refusal>
-    requires { HasWord (codes "pass") (rows_of (found_of options.now)) }
-    ensures shown { IfOk result (λ pass. pass_at (rows_of (found_of options.now)) ≡ Some pass) }
-    ensures refused { IfErr result (λ refusal. IsUsage refusal → pass_at (rows_of (found_of options.now)) ≡ None) }
+fn pass(alloc: Global, word: &str) -> Result<Pass, Refusal>
+    ensures named { IfOk result (λ pass. pass_named word.now ≡ Some pass) }
+    ensures refused { IfErr result (λ refusal. IsUsage refusal → pass_named word.now ≡ None) }
 {
-    let word = options.get_str("pass").unwrap();
     match pass_named(word) {
         Some(pass) => Ok(pass),
         None => Err(Refusal::Usage(format!(in alloc;
-            "error: invalid value '{word}' for '--pass <PASS>'\n  [possible values: tokens, parse, rows, names, types, frames, code, all]\n\nFor more information, try '--help'.\n"
+            "error: invalid value '{word}' for '--pass <PASS>'\n  [possible values: tokens, parse, rows, names, types, frames, places, code, all]\n\nFor more information, try '--help'.\n"
         )?)),
     }
+}
+
+// What is to be shown, or what `clap` says where not exactly one of the page and a pass is asked for. Its words for a command say nothing of options that
+// exclude or replace each other.
+fn view_of(alloc: Global, is_page: bool, word: Option<&str>) -> Result<Command, Refusal>
+    ensures shown { IfOk result (λ view. view_of is_page (option_map (λ w. w.now) word.entry) ≡ Some view) }
+    ensures refused { IfErr result (λ refusal. IsUsage refusal → view_of is_page (option_map (λ w. w.now) word.entry) ≡ None) }
+{
+    match (is_page, word) {
+        (true, None) => Ok(Command::Page),
+        (true, Some(_)) => Err(Refusal::Usage(String::from_str(alloc, TWO_VIEWS)?)),
+        (false, Some(word)) => Ok(Command::Show {
+            pass: pass(alloc, word)?,
+        }),
+        (false, None) => Err(Refusal::Usage(String::from_str(alloc, NO_VIEW)?)),
+    }
+}
+
+// The same by the options.
+fn view(alloc: Global, options: &ArgMatches<'_>) -> Result<Command, Refusal>
+    ensures shown { IfOk result (λ view. view_at (rows_of (found_of options.now)) ≡ Some view) }
+    ensures refused { IfErr result (λ refusal. IsUsage refusal → view_at (rows_of (found_of options.now)) ≡ None) }
+{
+    view_of(alloc, flag(options, "html"), options.get_str("pass"))
 }
 
 // What a subcommand asks for.
@@ -135,9 +166,7 @@ fn request(alloc: Global, name: &str, options: &ArgMatches<'_>) -> Result<Reques
             plan: plan(options),
         },
         "show" => Request {
-            command: Command::Show {
-                pass: pass(alloc, options)?,
-            },
+            command: view(alloc, options)?,
             plan: plan(options),
         },
         "batch" => Request {
@@ -174,6 +203,7 @@ fn request(alloc: Global, name: &str, options: &ArgMatches<'_>) -> Result<Reques
         _ => Request {
             command: Command::Table {
                 word: word(alloc, options)?,
+                entries: flag(options, "entries"),
             },
             plan: alone(),
         },
@@ -226,8 +256,8 @@ pub fn read(alloc: Global, words: &[String]) -> Result<Request, Refusal>
     ensures asked { IfOk result (λ request. asked (map string_bytes words.now) ≡ Some request) }
     ensures refused { IfErr result (λ refusal. IsUsage refusal → asked (map string_bytes words.now) ≡ None) }
 {
-    let command = command(alloc)?;
-    let matches = match command.try_get_matches_from(words) {
+    let mut command = command(alloc)?;
+    let matches = match command.try_get_matches_from_mut(words) {
         Ok(matches) => matches,
         Err(error) => return Err(refused_by(alloc, &error)),
     };

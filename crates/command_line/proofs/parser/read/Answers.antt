@@ -9,7 +9,7 @@ use Rattle.command_line.proofs.parser.read.Goals as goal
 
 pub returns-in-Err-clause-refused : goal.returns-in-Err-clause-refused
 returns-in-Err-clause-refused c = λ usage.
-    let app_is : app_of c.in_ok-command.command ≡ app = c.in_ok-command.ensures in
+    let app_is : app_of c.deref_mut.result.now ≡ app = ap app_of c.deref_mut.ensures.value ∙ c.in_ok-command.ensures in
     elim (c.in-Err.ensures.kinds (ap is_simple_and_free app_is ∙ app_is_free)) [
       | inl memory ↦ absurd (c.refused_by.ensures usage memory)
       | inr among ↦ asked_none (map string_bytes c.args.words.now) (kind_of c.in-Err.error) (subst (λ a. IsAmong (kind_of c.in-Err.error) (fault_of a (map string_bytes c.args.words.now))) app_is among)
@@ -17,18 +17,18 @@ returns-in-Err-clause-refused c = λ usage.
 
 pub request-requires : goal.request-requires
 request-requires c =
-    let app_is : app_of c.in_ok-command.command ≡ app = c.in_ok-command.ensures in
+    let app_is : app_of c.deref_mut.result.now ≡ app = ap app_of c.deref_mut.ensures.value ∙ c.in_ok-command.ensures in
     let words = map string_bytes c.args.words.now in
-    let one = met _ words words c.in-Ok.matches app_is refl (c.in-Ok.ensures.kinds (ap is_simple_and_free app_is ∙ app_is_free)) c.in-Ok.ensures.matches in
+    let one = met _ words words c.in-Ok.matches app_is refl (c.in-Ok.ensures.kinds (ap is_simple_and_free app_is ∙ app_is_free)) c.in-Ok.ensures.ok.2 in
     let name = sym (mapped_twice _ _ _) ∙ sym c.subcommand.ensures.name ∙ ap (option_map (λ p. p.0.now)) c.unwrap.ensures in
     let rows = sym c.subcommand.ensures.rows ∙ ap (option_map (λ p. rows_of (found_of p.1.now))) c.unwrap.ensures in
     (got words c.in-Ok.matches c.unwrap.result.0.now (rows_of (found_of c.unwrap.result.1.now)) one name rows).numbers
 
 pub returns-clause-asked : goal.returns-clause-asked
 returns-clause-asked c =
-    let app_is : app_of c.in_ok-command.command ≡ app = c.in_ok-command.ensures in
+    let app_is : app_of c.deref_mut.result.now ≡ app = ap app_of c.deref_mut.ensures.value ∙ c.in_ok-command.ensures in
     let words = map string_bytes c.args.words.now in
-    let one = met _ words words c.in-Ok.matches app_is refl (c.in-Ok.ensures.kinds (ap is_simple_and_free app_is ∙ app_is_free)) c.in-Ok.ensures.matches in
+    let one = met _ words words c.in-Ok.matches app_is refl (c.in-Ok.ensures.kinds (ap is_simple_and_free app_is ∙ app_is_free)) c.in-Ok.ensures.ok.2 in
     let name = sym (mapped_twice _ _ _) ∙ sym c.subcommand.ensures.name ∙ ap (option_map (λ p. p.0.now)) c.unwrap.ensures in
     let rows = sym c.subcommand.ensures.rows ∙ ap (option_map (λ p. rows_of (found_of p.1.now))) c.unwrap.ensures in
     let is_asked = (got words c.in-Ok.matches c.unwrap.result.0.now (rows_of (found_of c.unwrap.result.1.now)) one name rows).is_asked ∙ ap (option_and_then known) c.in_ok-request.ensures.asked in
@@ -36,9 +36,9 @@ returns-clause-asked c =
 
 pub returns-clause-refused : goal.returns-clause-refused
 returns-clause-refused c =
-    let app_is : app_of c.in_ok-command.command ≡ app = c.in_ok-command.ensures in
+    let app_is : app_of c.deref_mut.result.now ≡ app = ap app_of c.deref_mut.ensures.value ∙ c.in_ok-command.ensures in
     let words = map string_bytes c.args.words.now in
-    let one = met _ words words c.in-Ok.matches app_is refl (c.in-Ok.ensures.kinds (ap is_simple_and_free app_is ∙ app_is_free)) c.in-Ok.ensures.matches in
+    let one = met _ words words c.in-Ok.matches app_is refl (c.in-Ok.ensures.kinds (ap is_simple_and_free app_is ∙ app_is_free)) c.in-Ok.ensures.ok.2 in
     let name = sym (mapped_twice _ _ _) ∙ sym c.subcommand.ensures.name ∙ ap (option_map (λ p. p.0.now)) c.unwrap.ensures in
     let rows = sym c.subcommand.ensures.rows ∙ ap (option_map (λ p. rows_of (found_of p.1.now))) c.unwrap.ensures in
     let is_asked = (got words c.in-Ok.matches c.unwrap.result.0.now (rows_of (found_of c.unwrap.result.1.now)) one name rows).is_asked ∙ ap (option_and_then known) c.in_ok-request.ensures.asked in
@@ -47,8 +47,8 @@ returns-clause-refused c =
 pub returns-in_err-request-clause-refused : goal.returns-in_err-request-clause-refused
 returns-in_err-request-clause-refused c =
     let words = map string_bytes c.args.words.now in
-    let app_is = c.in_ok-command.ensures in
-    let one = met _ words words c.in-Ok.matches app_is refl (c.in-Ok.ensures.kinds (ap is_simple_and_free app_is ∙ app_is_free)) c.in-Ok.ensures.matches in
+    let app_is : app_of c.deref_mut.result.now ≡ app = ap app_of c.deref_mut.ensures.value ∙ c.in_ok-command.ensures in
+    let one = met _ words words c.in-Ok.matches app_is refl (c.in-Ok.ensures.kinds (ap is_simple_and_free app_is ∙ app_is_free)) c.in-Ok.ensures.ok.2 in
     let name = sym (mapped_twice _ _ _) ∙ sym c.subcommand.ensures.name ∙ ap (option_map (λ p. p.0.now)) c.unwrap.ensures in
     let rows = sym c.subcommand.ensures.rows ∙ ap (option_map (λ p. rows_of (found_of p.1.now))) c.unwrap.ensures in
     let is_asked = (got words c.in-Ok.matches c.unwrap.result.0.now (rows_of (found_of c.unwrap.result.1.now)) one name rows).is_asked in
