@@ -12,3 +12,4 @@ pub mod Rest
 mod Printing
 mod NamesShown
 mod Showing
+mod Joining

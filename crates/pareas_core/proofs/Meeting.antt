@@ -12,7 +12,7 @@ use Rattle.verdict.specs.Verdict.{Verdict, Diagnosed, Limited, Accepted, IsVerdi
 use Rattle.pareas_core.specs.declared.status.Status.{Status}
 use Rattle.pareas_core.specs.declared.status.Status.TheVariants as statuses
 use Rattle.command_line.specs.declared.command.Command.{Command}
-use Rattle.command_line.specs.declared.command.Command.TheVariants.{Build, Run, Show, Emu, Dump, Asm, Table, Drill, Explain}
+use Rattle.command_line.specs.declared.command.Command.TheVariants.{Build, Run, Show, Page, Emu, Dump, Asm, Table, Drill, Explain}
 use Rattle.command_line.specs.declared.command.Pass.{Pass}
 use Rattle.elf_file.specs.Image.{elf}
 use Rattle.elf_file.specs.declared.fault.ElfFault.{ElfFault}
@@ -24,11 +24,11 @@ use Rattle.simulation.specs.Behaves.{Behaves, IsFaulty, Overruns}
 use Rattle.table_text.specs.Answers.{IsTableAnswer}
 use Rattle.table_text.specs.declared.answer.TableAnswer.{TableAnswer}
 use Rattle.table_text.specs.declared.answer.TableAnswer.TheVariants as answers
-use Rattle.pareas_core.specs.Output.{Due, done, due_of_verdict, due_of_machine, due_of_dump, due_of_asm, due_of_drill, drill_lines, drill_steps, due_of_table, status_of, IsDue, built, ran, shown, unshown, batched, bad_batch, emulated, listed, assembled, tabled, drilled, explained}
+use Rattle.pareas_core.specs.Output.{Due, done, due_of_verdict, due_of_machine, due_of_dump, due_of_asm, due_of_drill, drill_lines, drill_steps, due_of_table, status_of, IsDue, built, ran, shown, unshown, paged, unpaged, batched, bad_batch, emulated, listed, assembled, tabled, drilled, explained}
 use Rattle.pareas_core.specs.Reading.{WritesPrefix}
 use Rattle.pareas_core.specs.Headline.{CompilesTo, RunsAs, Runs, what_was_read, what_was_made, HasRun, reads, read_by, End, HasFailed, HasWorked, GotPrefix, IsWritten, IsAnswer, MeetsWords}
-use Rattle.pareas_core.specs.Responses.{HasRead, IsToldOf, IsUnshown, IsResponse, IsDelivered, whole, broken_off}
-use Rattle.pareas_core.specs.Shown.{Shows}
+use Rattle.pareas_core.specs.Responses.{HasRead, IsToldOf, IsUnpaged, IsUnshown, IsResponse, IsDelivered, whole, broken_off}
+use Rattle.pareas_core.specs.Shown.{IsPage, Shows}
 use Rattle.pareas_core.proofs.Batched.{image_compiled}
 
 -- ---- what is due
@@ -114,14 +114,17 @@ no_dump_run wanted bytes source steps r = elim r [ ]
 no_asm_run : (wanted : Bool) (bytes source : List ℕ) (steps : ℕ) → Runs Asm bytes wanted source steps → ⊥
 no_asm_run wanted bytes source steps r = elim r [ ]
 
-no_table_run : (word : Option (List ℕ)) (wanted : Bool) (bytes source : List ℕ) (steps : ℕ) → Runs (Table word) bytes wanted source steps → ⊥
-no_table_run word wanted bytes source steps r = elim r [ ]
+no_table_run : (word : Option (List ℕ)) (entries wanted : Bool) (bytes source : List ℕ) (steps : ℕ) → Runs (Table word entries) bytes wanted source steps → ⊥
+no_table_run word entries wanted bytes source steps r = elim r [ ]
 
 no_explain_run : (code : ℕ) (wanted : Bool) (bytes source : List ℕ) (steps : ℕ) → Runs (Explain code) bytes wanted source steps → ⊥
 no_explain_run code wanted bytes source steps r = elim r [ ]
 
 no_show_run : (pass : Pass) (wanted : Bool) (bytes source : List ℕ) (steps : ℕ) → Runs (Show pass) bytes wanted source steps → ⊥
 no_show_run pass wanted bytes source steps r = elim r [ ]
+
+no_page_run : (wanted : Bool) (bytes source : List ℕ) (steps : ℕ) → Runs Page bytes wanted source steps → ⊥
+no_page_run wanted bytes source steps r = elim r [ ]
 
 -- an image that was built
 -- a build folds or doesn't, as its word says
@@ -258,17 +261,19 @@ listed_and_assembled again fits fold source file k =
 
 -- ---- a grammar file
 
-table_due : (word : Option (List ℕ)) (bytes : List ℕ) (e : Due) → IsDue (Table word) bytes e → (answer : TableAnswer) × IsTableAnswer bytes word answer × (e ≡ due_of_table answer)
-table_due word bytes _ (tabled {answer = answer} is) = (answer, is, refl)
+table_due : (word : Option (List ℕ)) (entries : Bool) (bytes : List ℕ) (e : Due) → IsDue (Table word entries) bytes e
+    → (answer : TableAnswer) × IsTableAnswer bytes entries word answer × (e ≡ due_of_table answer)
+table_due word entries bytes _ (tabled {answer = answer} is) = (answer, is, refl)
 
 -- a table's response is neither built nor run
-pub tables : (word : Option (List ℕ)) (bytes : List ℕ) (answer : TableAnswer) (d : Due) → ((a b : TableAnswer) → IsTableAnswer bytes word a → IsTableAnswer bytes word b → a ≡ b)
-    → IsTableAnswer bytes word answer → d ≡ due_of_table answer → IsResponse (Table word) bytes d
-tables word bytes answer d one is same = record {
-  due = subst (IsDue (Table word) bytes) (sym same) (tabled is);
-  only = λ e h. let other = table_due word bytes e h in other.2 ∙ ap due_of_table (one other.0 answer other.1 is) ∙ sym same;
-  built = λ wanted build is_done. let e : Table word ≡ Build wanted = build in cc;
-  ran = λ wanted source n runs h. absurd (no_table_run word wanted bytes source n runs);
+pub tables : (word : Option (List ℕ)) (entries : Bool) (bytes : List ℕ) (answer : TableAnswer) (d : Due)
+    → ((a b : TableAnswer) → IsTableAnswer bytes entries word a → IsTableAnswer bytes entries word b → a ≡ b)
+    → IsTableAnswer bytes entries word answer → d ≡ due_of_table answer → IsResponse (Table word entries) bytes d
+tables word entries bytes answer d one is same = record {
+  due = subst (IsDue (Table word entries) bytes) (sym same) (tabled is);
+  only = λ e h. let other = table_due word entries bytes e h in other.2 ∙ ap due_of_table (one other.0 answer other.1 is) ∙ sym same;
+  built = λ wanted build is_done. let e : Table word entries ≡ Build wanted = build in cc;
+  ran = λ wanted source n runs h. absurd (no_table_run word entries wanted bytes source n runs);
 }
 
 -- ---- an explanation
@@ -323,6 +328,43 @@ module _ (pass : Pass) (bytes : List ℕ) where
   shows_none one (Diagnostic code at) d h line = unshown_due one (Diagnosed code at) d h.1 h.0 line
   shows_none one (Limit code at size) d h line = unshown_due one (Limited code at size) d h.1 h.0 line
   shows_none one NoMemory d h line = absurd line
+
+-- ---- the page
+
+module _ (bytes : List ℕ) where
+  IsPagedDue : Due → Type 0
+  IsPagedDue e = (text : List ℕ) × IsPage bytes text × (e ≡ done text)
+
+  IsUnpagedDue : Due → Type 0
+  IsUnpagedDue e = (v : Verdict) × ((text : List ℕ) → ¬ IsPage bytes text) × IsVerdict false bytes v × (e ≡ due_of_verdict nothing bytes v)
+
+  page_due : (e : Due) → IsDue Page bytes e → IsPagedDue e ⊎ IsUnpagedDue e
+  unfolding IsPagedDue IsUnpagedDue
+  page_due _ (paged {text = text} is) = inl (text, is, refl)
+  page_due _ (unpaged {v = v} none is) = inr (v, none, is, refl)
+
+  pub pages : ((a b : List ℕ) → IsPage bytes a → IsPage bytes b → a ≡ b) → (text : List ℕ) (d : Due) → IsPage bytes text → d ≡ done text → IsResponse Page bytes d
+  unfolding IsPagedDue IsUnpagedDue
+  pages one text d is same = record {
+    due = subst (IsDue Page bytes) (sym same) (paged is);
+    only = λ e h. elim (page_due e h) [ inl o ↦ o.2 ∙ ap done (one o.0 text o.1 is) ∙ sym same | inr o ↦ absurd (o.1 text is) ];
+    built = λ wanted build is_done. let e : Page ≡ Build wanted = build in cc;
+    ran = λ wanted source n runs h. absurd (no_page_run wanted bytes source n runs);
+  }
+
+  unpaged_due : OneVerdict false bytes → (v : Verdict) (d : Due) → ((text : List ℕ) → ¬ IsPage bytes text) → IsVerdict false bytes v → d ≡ due_of_verdict nothing bytes v → IsResponse Page bytes d
+  unfolding IsPagedDue IsUnpagedDue
+  unpaged_due one v d none is same = record {
+    due = subst (IsDue Page bytes) (sym same) (unpaged none is);
+    only = λ e h. elim (page_due e h) [ inl o ↦ absurd (none o.0 o.1) | inr o ↦ o.3 ∙ ap (due_of_verdict nothing bytes) (one o.0 v o.2 is) ∙ sym same ];
+    built = λ wanted build is_done. let e : Page ≡ Build wanted = build in cc;
+    ran = λ wanted source n runs h. absurd (no_page_run wanted bytes source n runs);
+  }
+
+  pub pages_none : OneVerdict false bytes → (r : Refusal) (d : Due) → IsUnpaged bytes r → IsToldOf bytes r d → IsResponse Page bytes d
+  pages_none one (Diagnostic code at) d h line = unpaged_due one (Diagnosed code at) d h.1 h.0 line
+  pages_none one (Limit code at size) d h line = unpaged_due one (Limited code at size) d h.1 h.0 line
+  pages_none one NoMemory d h line = absurd line
 
 -- ---- what the outputs got
 
@@ -402,6 +444,8 @@ outcome _ bytes _ (drilled {seed = seed} {functions = functions} {v = v} is) =
     verdict_outcome (running (drill_lines text) drill_steps) text v (running_outcome (drill_lines text) drill_steps)
 outcome _ bytes _ (shown is) = tt
 outcome _ bytes _ (unshown {v = v} none is) = verdict_outcome (λ p. done []) bytes v (λ p. tt)
+outcome _ bytes _ (paged is) = tt
+outcome _ bytes _ (unpaged {v = v} none is) = verdict_outcome (λ p. done []) bytes v (λ p. tt)
 outcome _ bytes _ (batched is answers) = tt
 outcome _ bytes _ (bad_batch is) = tt
 outcome _ bytes _ (emulated {steps = steps}) = machine_outcome [] (machine bytes steps)

@@ -20,9 +20,10 @@ use Rattle.row_rules.specs.Laws.Walked.{length_labels, length_row_labels}
 use Rattle.row_laws.specs.Laws.Placed.{same_list}
 use Rattle.code_rules.specs.Laws.Meanings.{own_faultless, some_if}
 use Rattle.front_end.specs.Front.{AreNamesOf}
-use Rattle.pass_tables.specs.Tables.{is_use, is_declaration, kind_in, token_in, token_meant, bound_at, bound_tokens, declared_at, declared_numbers, name_table}
+use Rattle.pass_tables.specs.Tables.{is_use, is_declaration, kind_in, token_in, token_meant, bound_at, bound_tokens, declared_at, declared_numbers, name_columns}
 use Rattle.command_line.specs.declared.command.Pass.TheVariants.{Names}
-use Rattle.pareas_core.specs.Shown.{IsScoped, Shows, names_shown, numbers_declared}
+use Rattle.pareas_core.specs.Shown.{Arrays, IsScoped, name_arrays, numbers_declared}
+use Rattle.text_columns.specs.Columns.{Column}
 
 -- the kind and the own token of a row are its node's
 label_in : (ss : List Site) (rs : List Row) (k : ℕ) → site_labels ss ≡ row_labels rs → k < length ss
@@ -142,12 +143,12 @@ module _ (p : Program) (named : IsNamedProgram p) where
         ∙ declared_here k (site_at p k).part nodes refl
         ∙ sym (get_or-map (λ (s : Site). option_map (λ (v : Variable). v.number) (declares s.scope s.part)) (sites p) k nowhere None nodes))
 
-pub shows_names : (text : List ℕ) (rs : List Row) (names : NameRows) (table : List ℕ) (t : Tree Prog) → IsScoped text t → rs ≡ post (ast t) → AreNamesOf names (ast t)
-    → IsNamedProgram (ast t) → NamesBound (ast t) → CallsBound (ast t) → table ≡ name_table rs (bound_tokens rs names.meant) (declared_numbers rs names.numbers) → Shows text Names table
-shows_names text rs names table t scoped rows are named names_bound calls_bound is =
+pub are_names : (text : List ℕ) (rs : List Row) (names : NameRows) (columns : List Column) (t : Tree Prog) → IsScoped text t → rs ≡ post (ast t) → AreNamesOf names (ast t)
+    → IsNamedProgram (ast t) → NamesBound (ast t) → CallsBound (ast t) → columns ≡ name_columns rs (bound_tokens rs names.meant) (declared_numbers rs names.numbers) → Arrays text Names columns
+are_names text rs names columns t scoped rows are named names_bound calls_bound is =
     let p = ast t in
     let bound = bound_is p named names are (length (tokens text)) scoped.scoped names_bound calls_bound in
     let declared = declared_is p named names are in
-    subst (Shows text Names)
-    (sym (is ∙ ap (λ (rs : List Row). name_table rs (bound_tokens rs names.meant) (declared_numbers rs names.numbers)) rows ∙ (λ i. name_table (post p) (bound i) (declared i))))
-    (names_shown t scoped)
+    subst (Arrays text Names)
+    (sym (is ∙ ap (λ (rs : List Row). name_columns rs (bound_tokens rs names.meant) (declared_numbers rs names.numbers)) rows ∙ (λ i. name_columns (post p) (bound i) (declared i))))
+    (name_arrays t scoped)

@@ -1,17 +1,19 @@
 -- What is shown of a source is one text, and what refuses a source before a pass leaves nothing to show of it.
-use Rattle.std.proofs.Common.{◌≡◌, ◌∙◌, ℕ, ◌*◌, ◌<◌, ◌≤◌, ◌⊎◌, inl, inr, Bool, false, List, [], ◌++◌, length, map, Option, Some, None, nat_lt, Result, Ok, Err, refl, sym, ap, subst, arith}
-use Rattle.std.specs.Prelude.{IfErr, IsErrAnd, codes}
+use Rattle.std.proofs.Common.{◌≡◌, ◌≢◌, ◌∙◌, ℕ, ◌*◌, ◌<◌, ◌≤◌, ◌⊎◌, inl, inr, Bool, false, List, [], ◌++◌, length, map, Option, Some, None, nat_lt, Result, Ok, Err, refl, sym, ap, subst, arith}
+use Rattle.std.specs.Prelude.{IfErr, IsErrAnd}
 use Rattle.std.specs.List.{find}
 use Rattle.std.proofs.lemmas.Bool.{cases_lt}
 use Rattle.limits.specs.Limits.{most_source, most_frame, most_code}
 use Rattle.ast_rows.specs.TokenRows.{TokenRow, row_of}
 use Rattle.command_line.specs.declared.command.Pass.{Pass}
-use Rattle.command_line.specs.declared.command.Pass.TheVariants.{Tokens, Parse, Rows, Names, Types, Frames, Code, All}
+use Rattle.code_rules.specs.Pieces.{places, sizes}
+use Rattle.command_line.specs.declared.command.Pass.TheVariants.{Tokens, Parse, Rows, Names, Types, Frames, Places, Code, All}
 use Rattle.front_end.specs.Front.{AreRows, AreTokens, IsChecked, IsRefused, IsRefusedBy, TellsThat}
 use Rattle.front_end.specs.declared.refusal.Refusal.{Refusal}
 use Rattle.front_end.specs.declared.refusal.Refusal.TheVariants.{Diagnostic, Limit, NoMemory}
-use Rattle.pass_tables.specs.Tables.{token_table, parse_table, row_table, name_table, type_table, function_names, frame_table, code_table}
-use Rattle.rv_code.specs.Code.{instructions, words}
+use Rattle.pass_page.specs.Page.{page}
+use Rattle.pass_tables.specs.Tables.{token_columns, parse_columns, row_columns, name_columns, type_columns, function_names, frame_columns, place_columns, code_columns}
+use Rattle.rv_code.specs.Code.{instructions, layout_of, words}
 use Rattle.source_meaning.specs.Ast.{Function, Program}
 use Rattle.source_meaning.specs.Frames.{Frame, frame}
 use Rattle.source_meaning.specs.Grammar.{grammar, Tree, Prog, ast, leaves, left_parse, number_of}
@@ -23,13 +25,14 @@ use Rattle.source_meaning.specs.declared.kinds.ValueType.{ValueType}
 use Rattle.verdict.specs.Verdict.{Verdict, Diagnosed, Limited, Accepted, IsVerdict}
 use Rattle.pareas_core.specs.Coded.{AreFrames}
 use Rattle.pareas_core.specs.Responses.{Stops}
-use Rattle.pareas_core.specs.Shown.{IsLexed, IsParsed, IsShaped, IsScoped, Shows, tokens_shown, parse_shown, rows_shown, names_shown, types_shown, frames_shown, code_shown, all_shown, numbers_declared, headed, apart}
+use Rattle.pareas_core.specs.Shown.{AllArrays, AreAllArrays, Arrays, IsLexed, IsPage, IsParsed, IsShaped, IsScoped, Shows, token_arrays, parse_arrays, row_arrays, name_arrays, type_arrays, frame_arrays, place_arrays, code_arrays, one_shown, all_shown, page_shown, all_tables, named_arrays, numbers_declared}
+use Rattle.text_columns.specs.Columns.{Column, table_text}
 use Rattle.pareas_core.proofs.Chosen.{handed_on}
 
 abbrev pub OneTree : Type 0
 OneTree = (text : List ℕ) (t u : Tree Prog) → leaves t ≡ tokens text → leaves u ≡ tokens text → t ≡ u
 
--- ---- what a table shows
+-- ---- the arrays of a pass
 
 pub lexed_as : (text : List ℕ) (ts : List TokenRow) → AreTokens text ts → IsLexed text
 lexed_as text ts are = record { fits = are.fits; lexical = are.lexical }
@@ -42,162 +45,196 @@ pub checked_as : (text : List ℕ) (ts : List TokenRow) (rs : List Row) (t : Tre
 checked_as text ts rs t are rows scoped typed =
     record { fits = are.fits; lexical = are.lexical; tree = rows.tree; shaped = rows.shaped; scoped = scoped; typed = typed }
 
-pub shows_tokens : (text : List ℕ) (ts : List TokenRow) (table : List ℕ) → AreTokens text ts → table ≡ token_table text ts → Shows text Tokens table
-shows_tokens text ts table are is = subst (Shows text Tokens) (sym (is ∙ ap (token_table text) are.are)) (tokens_shown (lexed_as text ts are))
+pub are_tokens : (text : List ℕ) (ts : List TokenRow) (columns : List Column) → AreTokens text ts → columns ≡ token_columns text ts → Arrays text Tokens columns
+are_tokens text ts columns are is = subst (Arrays text Tokens) (sym (is ∙ ap (token_columns text) are.are)) (token_arrays (lexed_as text ts are))
 
-pub shows_parse : (text : List ℕ) (ts : List TokenRow) (ps table : List ℕ) (t : Tree Prog) → AreTokens text ts → leaves t ≡ tokens text → map number_of (left_parse t) ≡ ps
-    → table ≡ parse_table grammar ps → Shows text Parse table
-shows_parse text ts ps table t are tree parse is =
-    subst (Shows text Parse) (sym (is ∙ ap (parse_table grammar) (sym parse))) (parse_shown t (record { lexed = lexed_as text ts are; tree = tree }))
+pub are_steps : (text : List ℕ) (ts : List TokenRow) (ps : List ℕ) (columns : List Column) (t : Tree Prog) → AreTokens text ts → leaves t ≡ tokens text → map number_of (left_parse t) ≡ ps
+    → columns ≡ parse_columns grammar ps → Arrays text Parse columns
+are_steps text ts ps columns t are tree parse is =
+    subst (Arrays text Parse) (sym (is ∙ ap (parse_columns grammar) (sym parse))) (parse_arrays t (record { lexed = lexed_as text ts are; tree = tree }))
 
-pub shows_rows : (text : List ℕ) (ts : List TokenRow) (rs : List Row) (table : List ℕ) (t : Tree Prog) → AreTokens text ts → AreRows text rs t → table ≡ row_table text ts rs → Shows text Rows table
-shows_rows text ts rs table t are rows is =
-    subst (Shows text Rows) (sym (is ∙ (λ i. row_table text (are.are i) (rows.are i)))) (rows_shown t (shaped_as text ts rs t are rows))
+pub are_rows : (text : List ℕ) (ts : List TokenRow) (rs : List Row) (columns : List Column) (t : Tree Prog) → AreTokens text ts → AreRows text rs t → columns ≡ row_columns text ts rs
+    → Arrays text Rows columns
+are_rows text ts rs columns t are rows is =
+    subst (Arrays text Rows) (sym (is ∙ (λ i. row_columns text (are.are i) (rows.are i)))) (row_arrays t (shaped_as text ts rs t are rows))
 
-pub shows_types : (text : List ℕ) (rs : List Row) (tys : List (Option ValueType)) (table : List ℕ) (t : Tree Prog) → IsChecked text t → rs ≡ post (ast t) → tys ≡ types (ast t)
-    → table ≡ type_table rs tys → Shows text Types table
-shows_types text rs tys table t checked rows are is = subst (Shows text Types) (sym (is ∙ (λ i. type_table (rows i) (are i)))) (types_shown t checked)
+pub are_types : (text : List ℕ) (rs : List Row) (tys : List (Option ValueType)) (columns : List Column) (t : Tree Prog) → IsChecked text t → rs ≡ post (ast t) → tys ≡ types (ast t)
+    → columns ≡ type_columns rs tys → Arrays text Types columns
+are_types text rs tys columns t checked rows are is = subst (Arrays text Types) (sym (is ∙ (λ i. type_columns (rows i) (are i)))) (type_arrays t checked)
 
-pub shows_frames : (text : List ℕ) (ts : List TokenRow) (rs : List Row) (fs : List Frame) (table : List ℕ) (t : Tree Prog) → IsChecked text t → ts ≡ map row_of (tokens text) → rs ≡ post (ast t)
-    → AreFrames (ast t) fs → table ≡ frame_table (function_names text ts rs) fs → Shows text Frames table
-shows_frames text ts rs fs table t checked are rows framed is =
-    subst (Shows text Frames) (sym (is ∙ (λ i. frame_table (function_names text (are i) (rows i)) (framed.frames_are i)))) (frames_shown t checked framed.none_large)
+pub are_frames : (text : List ℕ) (ts : List TokenRow) (rs : List Row) (fs : List Frame) (columns : List Column) (t : Tree Prog) → IsChecked text t → ts ≡ map row_of (tokens text)
+    → rs ≡ post (ast t) → AreFrames (ast t) fs → columns ≡ frame_columns (function_names text ts rs) fs → Arrays text Frames columns
+are_frames text ts rs fs columns t checked are rows framed is =
+    subst (Arrays text Frames) (sym (is ∙ (λ i. frame_columns (function_names text (are i) (rows i)) (framed.frames_are i)))) (frame_arrays t checked framed.none_large)
 
-pub shows_code : (text ws table : List ℕ) (p : Program) → IsVerdict false text (Accepted p) → ws ≡ words p → table ≡ code_table ws → Shows text Code table
-shows_code text ws table p accepted are is = subst (Shows text Code) (sym (is ∙ ap code_table are)) (code_shown p accepted)
+pub are_places : (text : List ℕ) (rs : List Row) (ss ps : List ℕ) (columns : List Column) (p : Program) → IsVerdict false text (Accepted p) → rs ≡ post p → ss ≡ sizes (layout_of p) p
+    → ps ≡ places (layout_of p) p → columns ≡ place_columns rs ss ps → Arrays text Places columns
+are_places text rs ss ps columns p accepted rows sized placed is =
+    subst (Arrays text Places) (sym (is ∙ (λ i. place_columns (rows i) (sized i) (placed i)))) (place_arrays p accepted)
 
--- ---- what is shown, pass by pass
+pub are_words : (text ws : List ℕ) (columns : List Column) (p : Program) → IsVerdict false text (Accepted p) → ws ≡ words p → columns ≡ code_columns ws → Arrays text Code columns
+are_words text ws columns p accepted are is = subst (Arrays text Code) (sym (is ∙ ap code_columns are)) (code_arrays p accepted)
 
-pub tokens_only : (text a : List ℕ) → Shows text Tokens a → IsLexed text × (a ≡ token_table text (map row_of (tokens text)))
-tokens_only text _ (tokens_shown is) = (is, refl)
+-- ---- what the arrays of a pass tell of the source
 
-pub parse_only : (text a : List ℕ) → Shows text Parse a → (t : Tree Prog) × IsParsed text t × (a ≡ parse_table grammar (map number_of (left_parse t)))
-parse_only text _ (parse_shown t is) = (t, is, refl)
+pub tokens_only : (text : List ℕ) (a : List Column) → Arrays text Tokens a → IsLexed text × (a ≡ token_columns text (map row_of (tokens text)))
+tokens_only text _ (token_arrays is) = (is, refl)
 
-pub rows_only : (text a : List ℕ) → Shows text Rows a → (t : Tree Prog) × IsShaped text t × (a ≡ row_table text (map row_of (tokens text)) (post (ast t)))
-rows_only text _ (rows_shown t is) = (t, is, refl)
+pub parse_only : (text : List ℕ) (a : List Column) → Arrays text Parse a → (t : Tree Prog) × IsParsed text t × (a ≡ parse_columns grammar (map number_of (left_parse t)))
+parse_only text _ (parse_arrays t is) = (t, is, refl)
 
-pub names_only : (text a : List ℕ) → Shows text Names a → (t : Tree Prog) × IsScoped text t × (a ≡ name_table (post (ast t)) (bindings (ast t)) (numbers_declared (ast t)))
-names_only text _ (names_shown t is) = (t, is, refl)
+pub rows_only : (text : List ℕ) (a : List Column) → Arrays text Rows a → (t : Tree Prog) × IsShaped text t × (a ≡ row_columns text (map row_of (tokens text)) (post (ast t)))
+rows_only text _ (row_arrays t is) = (t, is, refl)
 
-pub types_only : (text a : List ℕ) → Shows text Types a → (t : Tree Prog) × IsChecked text t × (a ≡ type_table (post (ast t)) (types (ast t)))
-types_only text _ (types_shown t is) = (t, is, refl)
+pub names_only : (text : List ℕ) (a : List Column) → Arrays text Names a → (t : Tree Prog) × IsScoped text t × (a ≡ name_columns (post (ast t)) (bindings (ast t)) (numbers_declared (ast t)))
+names_only text _ (name_arrays t is) = (t, is, refl)
 
-pub frames_only : (text a : List ℕ) → Shows text Frames a → (t : Tree Prog) × IsChecked text t × (find (λ f. nat_lt most_frame (frame f).bytes) (ast t) ≡ None)
-    × (a ≡ frame_table (function_names text (map row_of (tokens text)) (post (ast t))) (map (λ f. frame f) (ast t)))
-frames_only text _ (frames_shown t is none) = (t, is, none, refl)
+pub types_only : (text : List ℕ) (a : List Column) → Arrays text Types a → (t : Tree Prog) × IsChecked text t × (a ≡ type_columns (post (ast t)) (types (ast t)))
+types_only text _ (type_arrays t is) = (t, is, refl)
 
-pub code_only : (text a : List ℕ) → Shows text Code a → (p : Program) × IsVerdict false text (Accepted p) × (a ≡ code_table (words p))
-code_only text _ (code_shown p is) = (p, is, refl)
+pub frames_only : (text : List ℕ) (a : List Column) → Arrays text Frames a → (t : Tree Prog) × IsChecked text t × (find (λ f. nat_lt most_frame (frame f).bytes) (ast t) ≡ None)
+    × (a ≡ frame_columns (function_names text (map row_of (tokens text)) (post (ast t))) (map (λ f. frame f) (ast t)))
+frames_only text _ (frame_arrays t is none) = (t, is, none, refl)
 
--- the seven tables of all
-pub record Seven (text all : List ℕ) : Type 0 where
-  pub tokens_text : List ℕ
-  pub parse_text : List ℕ
-  pub rows_text : List ℕ
-  pub names_text : List ℕ
-  pub types_text : List ℕ
-  pub frames_text : List ℕ
-  pub code_text : List ℕ
-  pub tokens_are : Shows text Tokens tokens_text
-  pub parse_is : Shows text Parse parse_text
-  pub rows_are : Shows text Rows rows_text
-  pub names_are : Shows text Names names_text
-  pub types_are : Shows text Types types_text
-  pub frames_are : Shows text Frames frames_text
-  pub code_is : Shows text Code code_text
-  pub whole : all ≡ headed (codes "tokens") tokens_text ++ apart (codes "parse") parse_text ++ apart (codes "rows") rows_text ++ apart (codes "names") names_text
-      ++ apart (codes "types") types_text ++ apart (codes "frames") frames_text ++ apart (codes "code") code_text
+pub places_only : (text : List ℕ) (a : List Column) → Arrays text Places a → (p : Program) × IsVerdict false text (Accepted p) × (a ≡ place_columns (post p) (sizes (layout_of p) p) (places (layout_of p) p))
+places_only text _ (place_arrays p is) = (p, is, refl)
 
-pub all_only : (text a : List ℕ) → Shows text All a → Seven text a
-all_only text _ (all_shown a b c d e f g ha hb hc hd he hf hg) = record {
-  tokens_text = a;
-  parse_text = b;
-  rows_text = c;
-  names_text = d;
-  types_text = e;
-  frames_text = f;
-  code_text = g;
-  tokens_are = ha;
-  parse_is = hb;
-  rows_are = hc;
-  names_are = hd;
-  types_are = he;
-  frames_are = hf;
-  code_is = hg;
-  whole = refl;
-}
+pub code_only : (text : List ℕ) (a : List Column) → Arrays text Code a → (p : Program) × IsVerdict false text (Accepted p) × (a ≡ code_columns (words p))
+code_only text _ (code_arrays p is) = (p, is, refl)
 
--- ---- what is shown is one text
+-- ---- what is shown of a pass
+
+pub shown_of : {text : List ℕ} (pass : Pass) (table : List ℕ) → pass ≢ All → Shows text pass table → (columns : List Column) × Arrays text pass columns × (table ≡ table_text columns)
+shown_of pass _ other (one_shown {columns = columns} are) = (columns, are, refl)
+shown_of pass _ other (all_shown all are) = absurd (other refl)
+
+pub all_only : {text : List ℕ} (table : List ℕ) → Shows text All table → (all : AllArrays) × AreAllArrays text all × (table ≡ all_tables all)
+all_only table h = of_all All table refl h
+  where
+    of_all : {text : List ℕ} (pass : Pass) (table : List ℕ) → pass ≡ All → Shows text pass table → (all : AllArrays) × AreAllArrays text all × (table ≡ all_tables all)
+    of_all pass _ is (all_shown all are) = (all, are, refl)
+    of_all Tokens _ is (one_shown are) = cc
+    of_all Parse _ is (one_shown are) = cc
+    of_all Rows _ is (one_shown are) = cc
+    of_all Names _ is (one_shown are) = cc
+    of_all Types _ is (one_shown are) = cc
+    of_all Frames _ is (one_shown are) = cc
+    of_all Places _ is (one_shown are) = cc
+    of_all Code _ is (one_shown are) = cc
+    of_all All _ is (one_shown are) = elim are [ ]
+
+pub paged_of : (text a : List ℕ) → IsPage text a → (t : Tree Prog) × (all : AllArrays) × IsShaped text t × AreAllArrays text all
+    × (a ≡ page text (map row_of (tokens text)) (post (ast t)) (named_arrays all))
+paged_of text _ (page_shown t all is are) = (t, all, is, are, refl)
+
+-- ---- and only one thing
 
 module _ (text : List ℕ) (one_tree : OneTree) (one_verdict : (v w : Verdict) → IsVerdict false text v → IsVerdict false text w → v ≡ w) where
-  one_tokens : (a b : List ℕ) → Shows text Tokens a → Shows text Tokens b → a ≡ b
+  one_tokens : (a b : List Column) → Arrays text Tokens a → Arrays text Tokens b → a ≡ b
   one_tokens a b h k = (tokens_only text a h).1 ∙ sym (tokens_only text b k).1
 
-  one_parse : (a b : List ℕ) → Shows text Parse a → Shows text Parse b → a ≡ b
+  one_parse : (a b : List Column) → Arrays text Parse a → Arrays text Parse b → a ≡ b
   one_parse a b h k =
       let x = parse_only text a h in
       let y = parse_only text b k in
-      x.2 ∙ ap (λ (t : Tree Prog). parse_table grammar (map number_of (left_parse t))) (one_tree text x.0 y.0 x.1.tree y.1.tree) ∙ sym y.2
+      x.2 ∙ ap (λ (t : Tree Prog). parse_columns grammar (map number_of (left_parse t))) (one_tree text x.0 y.0 x.1.tree y.1.tree) ∙ sym y.2
 
-  one_rows : (a b : List ℕ) → Shows text Rows a → Shows text Rows b → a ≡ b
+  one_rows : (a b : List Column) → Arrays text Rows a → Arrays text Rows b → a ≡ b
   one_rows a b h k =
       let x = rows_only text a h in
       let y = rows_only text b k in
-      x.2 ∙ ap (λ (t : Tree Prog). row_table text (map row_of (tokens text)) (post (ast t))) (one_tree text x.0 y.0 x.1.parsed.tree y.1.parsed.tree) ∙ sym y.2
+      x.2 ∙ ap (λ (t : Tree Prog). row_columns text (map row_of (tokens text)) (post (ast t))) (one_tree text x.0 y.0 x.1.parsed.tree y.1.parsed.tree) ∙ sym y.2
 
-  one_names : (a b : List ℕ) → Shows text Names a → Shows text Names b → a ≡ b
+  one_names : (a b : List Column) → Arrays text Names a → Arrays text Names b → a ≡ b
   one_names a b h k =
       let x = names_only text a h in
       let y = names_only text b k in
-      x.2 ∙ ap (λ (t : Tree Prog). name_table (post (ast t)) (bindings (ast t)) (numbers_declared (ast t))) (one_tree text x.0 y.0 x.1.shaped.parsed.tree y.1.shaped.parsed.tree) ∙ sym y.2
+      x.2 ∙ ap (λ (t : Tree Prog). name_columns (post (ast t)) (bindings (ast t)) (numbers_declared (ast t))) (one_tree text x.0 y.0 x.1.shaped.parsed.tree y.1.shaped.parsed.tree) ∙ sym y.2
 
-  one_types : (a b : List ℕ) → Shows text Types a → Shows text Types b → a ≡ b
+  one_types : (a b : List Column) → Arrays text Types a → Arrays text Types b → a ≡ b
   one_types a b h k =
       let x = types_only text a h in
       let y = types_only text b k in
-      x.2 ∙ ap (λ (t : Tree Prog). type_table (post (ast t)) (types (ast t))) (one_tree text x.0 y.0 x.1.tree y.1.tree) ∙ sym y.2
+      x.2 ∙ ap (λ (t : Tree Prog). type_columns (post (ast t)) (types (ast t))) (one_tree text x.0 y.0 x.1.tree y.1.tree) ∙ sym y.2
 
-  one_frames : (a b : List ℕ) → Shows text Frames a → Shows text Frames b → a ≡ b
+  one_frames : (a b : List Column) → Arrays text Frames a → Arrays text Frames b → a ≡ b
   one_frames a b h k =
       let x = frames_only text a h in
       let y = frames_only text b k in
-      x.3 ∙ ap (λ (t : Tree Prog). frame_table (function_names text (map row_of (tokens text)) (post (ast t))) (map (λ f. frame f) (ast t))) (one_tree text x.0 y.0 x.1.tree y.1.tree) ∙ sym y.3
+      x.3 ∙ ap (λ (t : Tree Prog). frame_columns (function_names text (map row_of (tokens text)) (post (ast t))) (map (λ f. frame f) (ast t))) (one_tree text x.0 y.0 x.1.tree y.1.tree) ∙ sym y.3
 
-  accepted_table : Verdict → List ℕ
-  accepted_table (Accepted p) = code_table (words p)
-  accepted_table v = []
+  placed : Verdict → List Column
+  placed (Accepted p) = place_columns (post p) (sizes (layout_of p) p) (places (layout_of p) p)
+  placed v = []
 
-  one_code : (a b : List ℕ) → Shows text Code a → Shows text Code b → a ≡ b
-  unfolding accepted_table
+  one_places : (a b : List Column) → Arrays text Places a → Arrays text Places b → a ≡ b
+  unfolding placed
+  one_places a b h k =
+      let x = places_only text a h in
+      let y = places_only text b k in
+      x.2 ∙ ap placed (one_verdict (Accepted x.0) (Accepted y.0) x.1 y.1) ∙ sym y.2
+
+  worded : Verdict → List Column
+  worded (Accepted p) = code_columns (words p)
+  worded v = []
+
+  one_code : (a b : List Column) → Arrays text Code a → Arrays text Code b → a ≡ b
+  unfolding worded
   one_code a b h k =
       let x = code_only text a h in
       let y = code_only text b k in
-      x.2 ∙ ap accepted_table (one_verdict (Accepted x.0) (Accepted y.0) x.1 y.1) ∙ sym y.2
+      x.2 ∙ ap worded (one_verdict (Accepted x.0) (Accepted y.0) x.1 y.1) ∙ sym y.2
 
-  one_all : (a b : List ℕ) → Shows text All a → Shows text All b → a ≡ b
-  one_all a b h k =
-      let x = all_only text a h in
-      let y = all_only text b k in
-      let ts = one_tokens x.tokens_text y.tokens_text x.tokens_are y.tokens_are in
-      let ps = one_parse x.parse_text y.parse_text x.parse_is y.parse_is in
-      let rs = one_rows x.rows_text y.rows_text x.rows_are y.rows_are in
-      let ns = one_names x.names_text y.names_text x.names_are y.names_are in
-      let ys = one_types x.types_text y.types_text x.types_are y.types_are in
-      let fs = one_frames x.frames_text y.frames_text x.frames_are y.frames_are in
-      let cs = one_code x.code_text y.code_text x.code_is y.code_is in
-      x.whole ∙ (λ i. headed (codes "tokens") (ts i) ++ apart (codes "parse") (ps i) ++ apart (codes "rows") (rs i) ++ apart (codes "names") (ns i) ++ apart (codes "types") (ys i)
-      ++ apart (codes "frames") (fs i) ++ apart (codes "code") (cs i)) ∙ sym y.whole
+  one_arrays : (pass : Pass) (a b : List Column) → Arrays text pass a → Arrays text pass b → a ≡ b
+  one_arrays Tokens a b h k = one_tokens a b h k
+  one_arrays Parse a b h k = one_parse a b h k
+  one_arrays Rows a b h k = one_rows a b h k
+  one_arrays Names a b h k = one_names a b h k
+  one_arrays Types a b h k = one_types a b h k
+  one_arrays Frames a b h k = one_frames a b h k
+  one_arrays Places a b h k = one_places a b h k
+  one_arrays Code a b h k = one_code a b h k
+  one_arrays All a b h k = elim h [ ]
 
-  pub one_shown : (pass : Pass) (a b : List ℕ) → Shows text pass a → Shows text pass b → a ≡ b
-  one_shown Tokens a b h k = one_tokens a b h k
-  one_shown Parse a b h k = one_parse a b h k
-  one_shown Rows a b h k = one_rows a b h k
-  one_shown Names a b h k = one_names a b h k
-  one_shown Types a b h k = one_types a b h k
-  one_shown Frames a b h k = one_frames a b h k
-  one_shown Code a b h k = one_code a b h k
-  one_shown All a b h k = one_all a b h k
+  pub all_arrays : (x y : AllArrays) → AreAllArrays text x → AreAllArrays text y → x ≡ y
+  all_arrays x y h k = λ i. record {
+    of_tokens = one_tokens x.of_tokens y.of_tokens h.tokens_are k.tokens_are i;
+    of_parse = one_parse x.of_parse y.of_parse h.parse_are k.parse_are i;
+    of_rows = one_rows x.of_rows y.of_rows h.rows_are k.rows_are i;
+    of_names = one_names x.of_names y.of_names h.names_are k.names_are i;
+    of_types = one_types x.of_types y.of_types h.types_are k.types_are i;
+    of_frames = one_frames x.of_frames y.of_frames h.frames_are k.frames_are i;
+    of_places = one_places x.of_places y.of_places h.places_are k.places_are i;
+    of_code = one_code x.of_code y.of_code h.code_are k.code_are i;
+  }
+
+  one_table : (pass : Pass) → pass ≢ All → (a b : List ℕ) → Shows text pass a → Shows text pass b → a ≡ b
+  one_table pass other a b h k =
+      let x = shown_of pass a other h in
+      let y = shown_of pass b other k in
+      x.2 ∙ ap table_text (one_arrays pass x.0 y.0 x.1 y.1) ∙ sym y.2
+
+  pub one_shown_text : (pass : Pass) (a b : List ℕ) → Shows text pass a → Shows text pass b → a ≡ b
+  one_shown_text All a b h k =
+      let x = all_only a h in
+      let y = all_only b k in
+      x.2 ∙ ap all_tables (all_arrays x.0 y.0 x.1 y.1) ∙ sym y.2
+  one_shown_text Tokens a b h k = one_table Tokens (λ e. cc) a b h k
+  one_shown_text Parse a b h k = one_table Parse (λ e. cc) a b h k
+  one_shown_text Rows a b h k = one_table Rows (λ e. cc) a b h k
+  one_shown_text Names a b h k = one_table Names (λ e. cc) a b h k
+  one_shown_text Types a b h k = one_table Types (λ e. cc) a b h k
+  one_shown_text Frames a b h k = one_table Frames (λ e. cc) a b h k
+  one_shown_text Places a b h k = one_table Places (λ e. cc) a b h k
+  one_shown_text Code a b h k = one_table Code (λ e. cc) a b h k
+
+  pub one_page : (a b : List ℕ) → IsPage text a → IsPage text b → a ≡ b
+  one_page a b h k =
+      let x = paged_of text a h in
+      let y = paged_of text b k in
+      let same : x.0 ≡ y.0 = one_tree text x.0 y.0 x.2.parsed.tree y.2.parsed.tree in
+      let all : x.1 ≡ y.1 = all_arrays x.1 y.1 x.3 y.3 in
+      x.4 ∙ (λ i. page text (map row_of (tokens text)) (post (ast (same i))) (named_arrays (all i))) ∙ sym y.4
 
 -- ---- what a refusal tells
 

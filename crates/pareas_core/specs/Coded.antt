@@ -11,9 +11,12 @@ use Rattle.source_meaning.specs.Shape.{shape_faults}
 use Rattle.source_meaning.specs.Typing.{type_faults}
 use Rattle.ast_rows.specs.NameRows.{NameRows}
 use Rattle.row_rules.specs.Steps.{kind_at}
+use Rattle.code_rules.specs.Pieces.{places, sizes}
 use Rattle.code_rules.specs.Reach.{IsSmall}
 use Rattle.front_end.specs.Front.{AreNamesOf, IsChecked}
+use Rattle.rv_code.specs.Code.{layout_of, words}
 use Rattle.verdict.specs.Verdict.{folded_if}
+use Rattle.pareas_core.specs.declared.coding.LaidOut.{LaidOut}
 
 -- a program without a fault of the phases up to types, whose numbers are words
 pub record IsClean (end : ℕ) (p : Program) : Type 0 where
@@ -40,3 +43,9 @@ pub record IsCoded (fold : Bool) (text : List ℕ) (t : Tree Prog) (rows : List 
   pub are : AreRowsOf (folded_if fold (ast t)) rows names
   pub depths_are : deep ≡ depths (folded_if fold (ast t))
   pub framed : AreFrames (folded_if fold (ast t)) frames
+
+-- the sizes and places of the pieces of a program's rows, and its words
+pub record AreLaidOut (p : Program) (laid : LaidOut) : Type 0 where
+  pub sizes_are : laid.sizes.items ≡ sizes (layout_of p) p
+  pub places_are : laid.places.items ≡ places (layout_of p) p
+  pub words_are : laid.words.items ≡ words p

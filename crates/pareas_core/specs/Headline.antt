@@ -9,7 +9,7 @@ use Rattle.pareas_core.specs.declared.status.Status.{Status}
 use Rattle.pareas_core.specs.declared.status.Status.TheVariants as statuses
 use Rattle.pareas_core.specs.Causes.{Rose, Stayed}
 use Rattle.command_line.specs.declared.command.Command.{Command}
-use Rattle.command_line.specs.declared.command.Command.TheVariants.{Build, Run, Show, Batch, Emu, Dump, Asm, Table, Drill, Explain}
+use Rattle.command_line.specs.declared.command.Command.TheVariants.{Build, Run, Show, Page, Batch, Emu, Dump, Asm, Table, Drill, Explain}
 use Rattle.elf_file.specs.Load.{most as most_image}
 use Rattle.batch_records.specs.Batch.{IsBatch, most_batch}
 use Rattle.batch_records.specs.Answering.{Answered}
@@ -62,11 +62,12 @@ abbrev pub most_bytes : Command → ℕ
 most_bytes (Build fold) = most_source
 most_bytes (Run steps fold) = most_source
 most_bytes (Show pass) = most_source
+most_bytes Page = most_source
 most_bytes Batch = most_batch
 most_bytes (Emu steps) = most_image
 most_bytes Dump = most_image
 most_bytes Asm = most_listing
-most_bytes (Table word) = most_grammar
+most_bytes (Table word entries) = most_grammar
 most_bytes (Drill seed functions) = 0
 most_bytes (Explain code) = 0
 

@@ -4,7 +4,7 @@ use Rattle.std.specs.Fmt.{signed_decimal, digits}
 use Rattle.std.specs.List.{flat_map}
 use Rattle.command_line.specs.declared.command.Command.{Command}
 use Rattle.command_line.specs.declared.command.Pass.{Pass}
-use Rattle.command_line.specs.declared.command.Command.TheVariants.{Build, Run, Show, Batch, Emu, Dump, Asm, Table, Drill, Explain}
+use Rattle.command_line.specs.declared.command.Command.TheVariants.{Build, Run, Show, Page, Batch, Emu, Dump, Asm, Table, Drill, Explain}
 use Rattle.batch_records.specs.Batch.{IsBatch, IsBatchFault, fault_text}
 use Rattle.batch_records.specs.Answering.{Answered, all_bytes}
 use Rattle.batch_records.specs.declared.answer.AnswerKind.TheVariants as kinds
@@ -20,7 +20,7 @@ use Rattle.elf_text.specs.Listing.{dumped, file_of_text}
 use Rattle.rv_text.specs.FaultLines.{line_of_fault as line_of_asm_fault}
 use Rattle.rv_text.specs.declared.fault.AsmFault.{AsmFault}
 use Rattle.rv32_emul.specs.Machine.{Outcome, Course, Exits, Faults, More, machine}
-use Rattle.pareas_core.specs.Shown.{Shows}
+use Rattle.pareas_core.specs.Shown.{IsPage, Shows}
 use Rattle.pareas_core.specs.declared.status.Status.{Status}
 use Rattle.pareas_core.specs.declared.status.Status.TheVariants.{Done, Refused, Limit, Running, Machine, Conflict, BadImage, BadGrammar, BadAsm, BadBatch}
 use Rattle.table_text.specs.Answers.{IsTableAnswer}
@@ -169,6 +169,9 @@ pub data IsDue : Command → List ℕ → Due → Type 0 where
   shown : {pass : Pass} {bytes text : List ℕ} → Shows bytes pass text → IsDue (Show pass) bytes (done text)
   unshown : {pass : Pass} {bytes : List ℕ} {v : Verdict} → ((text : List ℕ) → ¬ Shows bytes pass text) → IsVerdict false bytes v →
       IsDue (Show pass) bytes (due_of_verdict (λ p. done []) bytes v)
+  -- the page of a source, or what `build` says of a source that has none
+  paged : {bytes text : List ℕ} → IsPage bytes text → IsDue Page bytes (done text)
+  unpaged : {bytes : List ℕ} {v : Verdict} → ((text : List ℕ) → ¬ IsPage bytes text) → IsVerdict false bytes v → IsDue Page bytes (due_of_verdict (λ p. done []) bytes v)
   -- the answers to all sources of a batch, or the fault of bytes that are no batch
   batched : {bytes : List ℕ} {sources : List (List ℕ)} {answers : List Answered} → IsBatch bytes sources → AreAnswers sources answers →
       IsDue Batch bytes (done (all_bytes answers))
@@ -176,7 +179,8 @@ pub data IsDue : Command → List ℕ → Due → Type 0 where
   emulated : {steps : ℕ} {bytes : List ℕ} → IsDue (Emu steps) bytes (due_of_machine [] (machine bytes steps))
   listed : {bytes : List ℕ} → IsDue Dump bytes (due_of_dump (dumped bytes))
   assembled : {bytes : List ℕ} → IsDue Asm bytes (due_of_asm (file_of_text bytes))
-  tabled : {word : Option (List ℕ)} {bytes : List ℕ} {answer : TableAnswer} → IsTableAnswer bytes word answer → IsDue (Table word) bytes (due_of_table answer)
+  tabled : {word : Option (List ℕ)} {entries : Bool} {bytes : List ℕ} {answer : TableAnswer} → IsTableAnswer bytes entries word answer →
+      IsDue (Table word entries) bytes (due_of_table answer)
   -- the text of the seed is the source, and a diagnostic tells its place there
   drilled : {seed functions : ℕ} {bytes : List ℕ} {v : Verdict} → IsVerdict false (drill_text seed functions) v →
       IsDue (Drill seed functions) bytes

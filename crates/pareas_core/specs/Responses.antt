@@ -4,7 +4,9 @@ use Rattle.pareas_core.specs.declared.status.Status.{Status}
 use Rattle.pareas_core.specs.declared.status.Status.TheVariants as statuses
 use Rattle.pareas_core.specs.Headline.{CompilesTo, RunsAs, Runs, HasRun, read_by, End, HasFailed, GotPrefix, IsWritten}
 use Rattle.pareas_core.specs.Output.{Due, IsDue, at_place, noted}
-use Rattle.pareas_core.specs.Shown.{Shows}
+use Rattle.pareas_core.specs.Shown.{AllArrays, Arrays, IsPage, Shows}
+use Rattle.pareas_core.specs.declared.show.AllArrays.{AllArrays as KeptArrays}
+use Rattle.text_columns.specs.Columns.{Column}
 use Rattle.verdict.specs.Verdict.{IsVerdict, Diagnosed, Limited}
 use Rattle.pareas_core.specs.declared.response.Output.{Output}
 use Rattle.pareas_core.specs.declared.response.Output.TheVariants.{Bytes, Answers}
@@ -38,9 +40,30 @@ Stops A text (Diagnostic code at) = IsVerdict false text (Diagnosed code at) × 
 Stops A text (Limit code at bytes) = IsVerdict false text (Limited code at bytes) × A
 Stops A text NoMemory = Unit {0}
 
+-- the pass has no arrays of the source
+abbrev pub AreNone : List ℕ → Pass → Refusal → Type 0
+AreNone text pass = Stops ((columns : List Column) → ¬ Arrays text pass columns) text
+
 -- the source doesn't reach the pass
 abbrev pub IsUnshown : List ℕ → Pass → Refusal → Type 0
 IsUnshown text pass = Stops ((table : List ℕ) → ¬ Shows text pass table) text
+
+-- and it has no page
+abbrev pub IsUnpaged : List ℕ → Refusal → Type 0
+IsUnpaged text = Stops ((page : List ℕ) → ¬ IsPage text page) text
+
+-- the arrays of all passes, as they are kept
+abbrev pub arrays_of : KeptArrays → AllArrays
+arrays_of kept = record {
+  of_tokens = kept.syntax.tokens.items;
+  of_parse = kept.syntax.parse.items;
+  of_rows = kept.syntax.rows.items;
+  of_names = kept.meaning.names.items;
+  of_types = kept.meaning.types.items;
+  of_frames = kept.code.frames.items;
+  of_places = kept.code.places.items;
+  of_code = kept.code.code.items;
+}
 
 -- the bytes of an output
 abbrev pub output_bytes : Output → List ℕ

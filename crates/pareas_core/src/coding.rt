@@ -1,5 +1,5 @@
 //! The code of a source whose front has no diagnostic.
-ghost use Rattle.std.specs.Prelude.{◌≡◌, ◌<◌, ◌≤◌, Bool, None, length, nat_lt, IfOk, IfErr};
+ghost use Rattle.std.specs.Prelude.{◌≡◌, ◌<◌, ◌≤◌, Bool, false, None, length, nat_lt, IfOk, IfErr};
 ghost use Rattle.std.specs.List.{find};
 ghost use Rattle.limits.specs.Limits.{most_frame, most_rows};
 ghost use Rattle.source_meaning.specs.Ast.{Program as Source};
@@ -10,7 +10,7 @@ ghost use Rattle.folding.specs.Folding.{folded_program};
 ghost use Rattle.rv_code.specs.Code.{most_long, words as words_of};
 ghost use Rattle.front_end.specs.Front.{AreTokens, IsAnalysis, IsChecked, IsRefusedBy, TellsThat};
 ghost use Rattle.verdict.specs.Verdict.{Accepted, IsVerdict, folded_if};
-ghost use Rattle.pareas_core.specs.Coded.{AreFrames, AreRowsOf, IsClean, IsCoded};
+ghost use Rattle.pareas_core.specs.Coded.{AreFrames, AreLaidOut, AreRowsOf, IsClean, IsCoded};
 
 use crate::clean::compiled_programs_are_clean;
 use ast_rows::{Names, Rows, Tokens};
@@ -18,7 +18,7 @@ use fold_pass::fold;
 use front_end::{Analysis, Refusal, limits_come_last, place};
 use par_passes::Passes;
 use row_laws::rows_are_few;
-use rv_emit::CodeFault;
+use rv_emit::{CodeFault, code_columns, emit, places, sizes};
 use rv_regs::{FrameFault, Frames, depths, frames};
 use scan_lookback::Steps;
 use std::alloc::AllocError;
@@ -136,6 +136,50 @@ pub(crate) fn emitted(
     compiled_programs_are_clean();
     match rv_emit::code(crew, rows, names, depths, frames) {
         Ok(words) => Ok(words),
+        Err(CodeFault::Large { bytes }) => Err(Refusal::Limit {
+            code: 603,
+            at: source.len() as u32,
+            bytes,
+        }),
+        Err(CodeFault::NoMemory) => Err(Refusal::NoMemory),
+    }
+}
+
+/// The passes' arrays of the code: how many words the piece of each row has, the number of its first word, and the words of all.
+#[derive(Drop)]
+pub(crate) struct LaidOut {
+    pub(crate) sizes: Vec<u32>,
+    pub(crate) places: Vec<u32>,
+    pub(crate) words: Vec<u32>,
+}
+
+/// These arrays of the program as it is, or the limit that its words pass.
+pub(crate) fn laid_out(
+    crew: &impl Passes,
+    source: &[u8],
+    rows: &Rows,
+    names: Names,
+    depths: &[u32],
+    frames: &Frames,
+) -> Result<LaidOut, Refusal>
+    requires nodes { length rows.now ≤ most_rows }
+    requires coded { (t : Tree Prog) × IsCoded false source.now t rows.now names depths.now frames.now }
+    ensures ok { IfOk result (λ laid. (t : Tree Prog) → IsCoded false source.now t rows.now names depths.now frames.now
+        → IsVerdict false source.now (Accepted (ast t)) × AreLaidOut (ast t) laid) }
+    ensures few { IfOk result (λ laid. length laid.words.items ≤ most_long) }
+    ensures refused { (t : Tree Prog) → IsCoded false source.now t rows.now names depths.now frames.now → IfErr result (IsRefusedBy false source.now) }
+{
+    limits_come_last();
+    compiled_programs_are_clean();
+    let columns = code_columns(crew, rows, &names, depths, frames)?;
+    let sizes = sizes(crew, &columns)?;
+    let places = places(crew, &columns, &sizes)?;
+    match emit(crew, &columns, &places) {
+        Ok(words) => Ok(LaidOut {
+            sizes,
+            places,
+            words,
+        }),
         Err(CodeFault::Large { bytes }) => Err(Refusal::Limit {
             code: 603,
             at: source.len() as u32,

@@ -35,7 +35,9 @@ fn limit_of(command: &Command) -> usize
     ensures { result ≡ most_bytes command.now }
 {
     match command {
-        Command::Build { .. } | Command::Run { .. } | Command::Show { .. } => MOST_SOURCE,
+        Command::Build { .. } | Command::Run { .. } | Command::Show { .. } | Command::Page => {
+            MOST_SOURCE
+        }
         Command::Batch => MOST_BATCH,
         Command::Emu { .. } | Command::Dump => MOST_IMAGE,
         Command::Asm => MOST_LISTING,

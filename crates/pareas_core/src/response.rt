@@ -17,7 +17,7 @@ use crate::explain::explain;
 use crate::listing::{asm, dump};
 use crate::machine::emulate;
 use crate::position::{error_line, limit_line};
-use crate::show::show;
+use crate::show::{page, show};
 use crate::status::Status;
 use crate::table::table;
 use crate::writing::{write_all, write_answers};
@@ -132,11 +132,12 @@ pub(crate) fn respond<R: Threads + Sync, G: Gate>(
         Command::Build { fold } => build(crew, bytes, *fold),
         Command::Run { steps, fold } => run(crew, bytes, *steps, *fold),
         Command::Show { pass } => show(crew, bytes, *pass),
+        Command::Page => page(crew, bytes),
         Command::Batch => batch(crew, bytes),
         Command::Emu { steps } => emulate(crew.alloc, Vec::new(crew.alloc), bytes, *steps),
         Command::Dump => dump(crew.alloc, bytes),
         Command::Asm => asm(crew.alloc, bytes),
-        Command::Table { word } => table(crew, bytes, word),
+        Command::Table { word, entries } => table(crew, bytes, word, *entries),
         Command::Drill { seed, functions } => drill(crew, *seed, *functions),
         Command::Explain { code } => explain(crew.alloc, *code),
     }

@@ -1,19 +1,22 @@
-// What a pass of the compiler makes of a source, as tables.
+// What the passes of the compiler make of a source, as tables of text and as a page.
 
-ghost use Rattle.std.specs.Prelude.{◌≡◌, ◌++◌, ◌≤◌, false, codes, length, map, IfErr, IfOk, OnOk};
-ghost use Rattle.command_line.specs.declared.command.Command.TheVariants.{Show};
+ghost use Rattle.std.specs.Prelude.{◌≡◌, ◌≢◌, ◌++◌, ◌≤◌, ℕ, List, false, codes, flat_map, length, map, IfErr, IfOk, OnOk};
+ghost use Rattle.command_line.specs.declared.command.Command.TheVariants as commands;
+ghost use Rattle.command_line.specs.declared.command.Pass.{Pass as AnyPass};
 ghost use Rattle.command_line.specs.declared.command.Pass.TheVariants as passes;
 ghost use Rattle.front_end.specs.Front.{AreNamesOf, AreRows, AreTokens, IsAnalysis, IsChecked};
 ghost use Rattle.limits.specs.Limits.{most_rows};
-ghost use Rattle.pass_tables.specs.Tables.{parse_table};
+ghost use Rattle.pass_page.specs.Page.{closing, opening, source_box, table_box, tree_box};
+ghost use Rattle.pass_tables.specs.Tables.{parse_columns};
 ghost use Rattle.source_meaning.specs.Ast.{Program};
 ghost use Rattle.source_meaning.specs.Grammar.{Tree, Prog, ast, grammar, leaves, left_parse, number_of};
 ghost use Rattle.source_meaning.specs.Lexemes.{tokens as tokens_in};
+ghost use Rattle.text_columns.specs.Columns.{table_text};
 ghost use Rattle.verdict.specs.Verdict.{Accepted, IsVerdict};
-ghost use Rattle.pareas_core.specs.Responses.{IsResponse, IsUnshown, Stops};
-ghost use Rattle.pareas_core.specs.Shown.{IsLexed, IsParsed, IsScoped, IsShaped, Shows, headed, apart};
+ghost use Rattle.pareas_core.specs.Responses.{AreNone, IsResponse, IsUnpaged, IsUnshown, Stops, arrays_of};
+ghost use Rattle.pareas_core.specs.Shown.{AreAllArrays, Arrays, IsLexed, IsPage, IsParsed, IsScoped, IsShaped, Shows, all_tables, apart, headed, named_arrays};
 
-use crate::coding::{code, emitted, frames_or_limit, parts};
+use crate::coding::{LaidOut, frames_or_limit, laid_out, parts};
 use crate::listing::written;
 use crate::response::{Response, refused};
 use ast_rows::{Names, Rows, Tokens};
@@ -24,13 +27,16 @@ use front_end::{
 };
 use name_pass::names_are_bindings;
 use par_passes::Passes;
+use pass_page::{push_closing, push_opening, push_source_box, push_table_box, push_tree_box};
 use pass_tables::{
-    code_table, frame_table, name_table, parse_table, row_table, token_table, type_table,
+    code_columns, frame_columns, name_columns, parse_columns, place_columns, row_columns, table,
+    token_columns, type_columns,
 };
 use row_laws::rows_are_few;
 use row_rules::shaped_is_named;
 use rv_regs::depths;
 use std::alloc::{AllocError, Global};
+use text_columns::{Column, push_table};
 use verdict::{one_tree_of_text, one_verdict};
 
 // The tokens of the source.
@@ -78,67 +84,69 @@ fn names_of(crew: &impl Passes, source: &[u8]) -> Result<(Rows, Names), Refusal>
     Ok((rows, names))
 }
 
-// The table of the tokens.
-fn token_text(crew: &impl Passes, source: &[u8]) -> Result<Vec<u8>, Refusal>
-    ensures shown { IfOk result (λ text. Shows source.now passes.Tokens text.items) }
-    ensures stopped { IfErr result (IsUnshown source.now passes.Tokens) }
+// ---- the arrays of one pass
+
+// The arrays of the tokens.
+fn token_arrays(crew: &impl Passes, source: &[u8]) -> Result<Vec<Column>, Refusal>
+    ensures shown { IfOk result (λ columns. Arrays source.now passes.Tokens columns.items) }
+    ensures stopped { IfErr result (AreNone source.now passes.Tokens) }
 {
     let tokens = tokens_of(crew, source)?;
-    Ok(token_table(crew.alloc(), source, &tokens)?)
+    Ok(token_columns(crew.alloc(), source, &tokens)?)
 }
 
-// The table of a left parse by the language's grammar.
-fn production_table(alloc: Global, productions: &[u16]) -> Result<Vec<u8>, AllocError>
-    ensures { IfOk result (λ text. text.items ≡ parse_table grammar productions.now) }
+// The arrays of a left parse by the language's grammar.
+fn production_arrays(alloc: Global, productions: &[u16]) -> Result<Vec<Column>, AllocError>
+    ensures { IfOk result (λ columns. columns.items ≡ parse_columns grammar productions.now) }
 {
     let grammar = language_grammar(alloc)?;
-    parse_table(alloc, &grammar, productions)
+    parse_columns(alloc, &grammar, productions)
 }
 
-// The table of the left parse.
-fn parse_text(crew: &impl Passes, source: &[u8]) -> Result<Vec<u8>, Refusal>
-    ensures shown { IfOk result (λ text. Shows source.now passes.Parse text.items) }
-    ensures stopped { IfErr result (IsUnshown source.now passes.Parse) }
+// The arrays of the left parse.
+fn parse_arrays(crew: &impl Passes, source: &[u8]) -> Result<Vec<Column>, Refusal>
+    ensures shown { IfOk result (λ columns. Arrays source.now passes.Parse columns.items) }
+    ensures stopped { IfErr result (AreNone source.now passes.Parse) }
 {
     let (_, productions) = parse_of(crew, source)?;
-    Ok(production_table(crew.alloc(), &productions)?)
+    Ok(production_arrays(crew.alloc(), &productions)?)
 }
 
-// The table of the rows.
-fn row_text(crew: &impl Passes, source: &[u8]) -> Result<Vec<u8>, Refusal>
-    ensures shown { IfOk result (λ text. Shows source.now passes.Rows text.items) }
-    ensures stopped { IfErr result (IsUnshown source.now passes.Rows) }
+// The arrays of the rows.
+fn row_arrays(crew: &impl Passes, source: &[u8]) -> Result<Vec<Column>, Refusal>
+    ensures shown { IfOk result (λ columns. Arrays source.now passes.Rows columns.items) }
+    ensures stopped { IfErr result (AreNone source.now passes.Rows) }
 {
     let (tokens, rows) = rows_of(crew, source)?;
-    Ok(row_table(crew.alloc(), source, &tokens, &rows)?)
+    Ok(row_columns(crew.alloc(), source, &tokens, &rows)?)
 }
 
-// The table of the names.
-fn name_text(crew: &impl Passes, source: &[u8]) -> Result<Vec<u8>, Refusal>
-    ensures shown { IfOk result (λ text. Shows source.now passes.Names text.items) }
-    ensures stopped { IfErr result (IsUnshown source.now passes.Names) }
+// The arrays of the names.
+fn name_arrays(crew: &impl Passes, source: &[u8]) -> Result<Vec<Column>, Refusal>
+    ensures shown { IfOk result (λ columns. Arrays source.now passes.Names columns.items) }
+    ensures stopped { IfErr result (AreNone source.now passes.Names) }
 {
     names_are_bindings();
     shaped_is_named();
     let (rows, names) = names_of(crew, source)?;
-    Ok(name_table(crew.alloc(), &rows, &names)?)
+    Ok(name_columns(crew.alloc(), &rows, &names)?)
 }
 
-// The table of the types.
-fn type_text(crew: &impl Passes, source: &[u8]) -> Result<Vec<u8>, Refusal>
-    ensures shown { IfOk result (λ text. Shows source.now passes.Types text.items) }
-    ensures stopped { IfErr result (IsUnshown source.now passes.Types) }
+// The arrays of the types.
+fn type_arrays(crew: &impl Passes, source: &[u8]) -> Result<Vec<Column>, Refusal>
+    ensures shown { IfOk result (λ columns. Arrays source.now passes.Types columns.items) }
+    ensures stopped { IfErr result (AreNone source.now passes.Types) }
 {
     one_verdict();
     limits_come_last();
     let analysis = front(crew, source)?;
-    Ok(type_table(crew.alloc(), &analysis.rows, &analysis.types)?)
+    Ok(type_columns(crew.alloc(), &analysis.rows, &analysis.types)?)
 }
 
-// The table of the frames.
-fn frame_text(crew: &impl Passes, source: &[u8]) -> Result<Vec<u8>, Refusal>
-    ensures shown { IfOk result (λ text. Shows source.now passes.Frames text.items) }
-    ensures stopped { IfErr result (IsUnshown source.now passes.Frames) }
+// The arrays of the frames.
+fn frame_arrays(crew: &impl Passes, source: &[u8]) -> Result<Vec<Column>, Refusal>
+    ensures shown { IfOk result (λ columns. Arrays source.now passes.Frames columns.items) }
+    ensures stopped { IfErr result (AreNone source.now passes.Frames) }
 {
     one_tree_of_text();
     one_verdict();
@@ -147,7 +155,7 @@ fn frame_text(crew: &impl Passes, source: &[u8]) -> Result<Vec<u8>, Refusal>
     let analysis = front(crew, source)?;
     let depths = depths(crew, &analysis.rows)?;
     let frames = frames_or_limit(crew, source, &analysis.tokens, &analysis.rows, &depths)?;
-    Ok(frame_table(
+    Ok(frame_columns(
         crew.alloc(),
         source,
         &analysis.tokens,
@@ -156,90 +164,131 @@ fn frame_text(crew: &impl Passes, source: &[u8]) -> Result<Vec<u8>, Refusal>
     )?)
 }
 
-// The table of the code.
-fn code_text(crew: &impl Passes, source: &[u8]) -> Result<Vec<u8>, Refusal>
-    ensures shown { IfOk result (λ text. Shows source.now passes.Code text.items) }
-    ensures stopped { IfErr result (IsUnshown source.now passes.Code) }
+// The arrays of the passes that make the code.
+#[derive(Drop)]
+struct CodeArrays {
+    frames: Vec<Column>,
+    places: Vec<Column>,
+    code: Vec<Column>,
+}
+
+// These arrays.
+fn arrays_of_code(
+    crew: &impl Passes,
+    source: &[u8],
+    analysis: Analysis,
+) -> Result<CodeArrays, Refusal>
+    requires analyzed { (t : Tree Prog) × IsAnalysis source.now t analysis }
+    ensures frames { IfOk result (λ arrays. Arrays source.now passes.Frames arrays.frames.items) }
+    ensures places { IfOk result (λ arrays. Arrays source.now passes.Places arrays.places.items) }
+    ensures code { IfOk result (λ arrays. Arrays source.now passes.Code arrays.code.items) }
+    ensures stopped { IfErr result (Stops ((p : Program) → ¬ IsVerdict false source.now (Accepted p)) source.now) }
+{
+    one_verdict();
+    rows_are_few();
+    let (tokens, rows, names) = parts(analysis);
+    let depths = depths(crew, &rows)?;
+    let frames = frames_or_limit(crew, source, &tokens, &rows, &depths)?;
+    let LaidOut {
+        sizes,
+        places,
+        words,
+    } = laid_out(crew, source, &rows, names, &depths, &frames)?;
+    Ok(CodeArrays {
+        frames: frame_columns(crew.alloc(), source, &tokens, &rows, &frames)?,
+        places: place_columns(crew.alloc(), &rows, &sizes, &places)?,
+        code: code_columns(crew.alloc(), &words)?,
+    })
+}
+
+// The arrays of the passes that make the code, of a source that has some.
+fn coded(crew: &impl Passes, source: &[u8]) -> Result<CodeArrays, Refusal>
+    ensures places { IfOk result (λ arrays. Arrays source.now passes.Places arrays.places.items) }
+    ensures code { IfOk result (λ arrays. Arrays source.now passes.Code arrays.code.items) }
+    ensures stopped { IfErr result (Stops ((p : Program) → ¬ IsVerdict false source.now (Accepted p)) source.now) }
 {
     one_verdict();
     let analysis = front(crew, source)?;
-    let words = code(crew, source, analysis, false)?;
-    Ok(code_table(crew.alloc(), &words)?)
+    arrays_of_code(crew, source, analysis)
 }
 
-// Writes a table behind a line with its name.
-fn push_headed(out: &mut Vec<u8>, name: &[u8], table: &[u8]) -> Result<(), AllocError>
-    ensures { OnOk result (out.new.items ≡ out.old.items ++ headed name.now table.now) }
+// The arrays of the places.
+fn place_arrays(crew: &impl Passes, source: &[u8]) -> Result<Vec<Column>, Refusal>
+    ensures shown { IfOk result (λ columns. Arrays source.now passes.Places columns.items) }
+    ensures stopped { IfErr result (AreNone source.now passes.Places) }
 {
-    out.extend_from_slice(name)?;
-    out.push(b'\n')?;
-    out.extend_from_slice(table)
+    let CodeArrays { places, .. } = coded(crew, source)?;
+    Ok(places)
 }
 
-// The same behind an empty line.
-fn push_apart(out: &mut Vec<u8>, name: &[u8], table: &[u8]) -> Result<(), AllocError>
-    ensures { OnOk result (out.new.items ≡ out.old.items ++ apart name.now table.now) }
+// The arrays of the code.
+fn code_arrays(crew: &impl Passes, source: &[u8]) -> Result<Vec<Column>, Refusal>
+    ensures shown { IfOk result (λ columns. Arrays source.now passes.Code columns.items) }
+    ensures stopped { IfErr result (AreNone source.now passes.Code) }
 {
-    out.push(b'\n')?;
-    push_headed(out, name, table)
+    let CodeArrays { code, .. } = coded(crew, source)?;
+    Ok(code)
 }
 
-// The tables of the passes up to the rows of the syntax tree.
+// ---- the arrays of all passes
+
+// The arrays of the passes up to the rows of the syntax tree.
 #[derive(Drop)]
-struct SyntaxTables {
-    tokens: Vec<u8>,
-    parse: Vec<u8>,
-    rows: Vec<u8>,
+struct SyntaxArrays {
+    tokens: Vec<Column>,
+    parse: Vec<Column>,
+    rows: Vec<Column>,
 }
 
-// The tables of the passes over the rows that find names and types.
+// The arrays of the passes over the rows that find names and types.
 #[derive(Drop)]
-struct MeaningTables {
-    names: Vec<u8>,
-    types: Vec<u8>,
+struct MeaningArrays {
+    names: Vec<Column>,
+    types: Vec<Column>,
 }
 
-// The tables of the passes that make the code.
+// The arrays of all passes.
 #[derive(Drop)]
-struct CodeTables {
-    frames: Vec<u8>,
-    code: Vec<u8>,
+struct AllArrays {
+    syntax: SyntaxArrays,
+    meaning: MeaningArrays,
+    code: CodeArrays,
 }
 
-// The first tables, with what the passes behind them take. The left parse ends here.
-fn tables_to_rows(
+// The first arrays, with what the passes behind them take. The left parse ends here.
+fn arrays_to_rows(
     crew: &impl Passes,
     source: &[u8],
-) -> Result<(Tokens, Rows, SyntaxTables), Refusal>
+) -> Result<(Tokens, Rows, SyntaxArrays), Refusal>
     ensures lexed { IfOk result (λ found. AreTokens source.now found.0) }
     ensures shaped { IfOk result (λ found. (t : Tree Prog) × AreRows source.now found.1 t) }
-    ensures tokens { IfOk result (λ found. Shows source.now passes.Tokens found.2.tokens.items) }
-    ensures parse { IfOk result (λ found. Shows source.now passes.Parse found.2.parse.items) }
-    ensures rows { IfOk result (λ found. Shows source.now passes.Rows found.2.rows.items) }
+    ensures tokens { IfOk result (λ found. Arrays source.now passes.Tokens found.2.tokens.items) }
+    ensures parse { IfOk result (λ found. Arrays source.now passes.Parse found.2.parse.items) }
+    ensures rows { IfOk result (λ found. Arrays source.now passes.Rows found.2.rows.items) }
     ensures stopped { IfErr result (Stops ((t : Tree Prog) → ¬ IsShaped source.now t) source.now) }
 {
     let (tokens, productions) = parse_of(crew, source)?;
     let rows = shaped(crew, source, &tokens, &productions)?;
-    let tables = SyntaxTables {
-        tokens: token_table(crew.alloc(), source, &tokens)?,
-        parse: production_table(crew.alloc(), &productions)?,
-        rows: row_table(crew.alloc(), source, &tokens, &rows)?,
+    let arrays = SyntaxArrays {
+        tokens: token_columns(crew.alloc(), source, &tokens)?,
+        parse: production_arrays(crew.alloc(), &productions)?,
+        rows: row_columns(crew.alloc(), source, &tokens, &rows)?,
     };
-    Ok((tokens, rows, tables))
+    Ok((tokens, rows, arrays))
 }
 
-// The tables behind them, with all that is known of the source before its code is made.
-fn tables_of_meaning(
+// The arrays behind them, with all that is known of the source before its code is made.
+fn arrays_of_meaning(
     crew: &impl Passes,
     source: &[u8],
     tokens: Tokens,
     rows: Rows,
-) -> Result<(Analysis, MeaningTables), Refusal>
+) -> Result<(Analysis, MeaningArrays), Refusal>
     requires lexed { AreTokens source.now tokens }
     requires shaped { (t : Tree Prog) × AreRows source.now rows t }
     ensures ok { IfOk result (λ found. (t : Tree Prog) × IsAnalysis source.now t found.0) }
-    ensures names { IfOk result (λ found. Shows source.now passes.Names found.1.names.items) }
-    ensures types { IfOk result (λ found. Shows source.now passes.Types found.1.types.items) }
+    ensures names { IfOk result (λ found. Arrays source.now passes.Names found.1.names.items) }
+    ensures types { IfOk result (λ found. Arrays source.now passes.Types found.1.types.items) }
     ensures stopped { IfErr result (Stops ((t : Tree Prog) → ¬ IsChecked source.now t) source.now) }
 {
     rows_are_few();
@@ -248,9 +297,9 @@ fn tables_of_meaning(
     shaped_is_named();
     let names = named(crew, source, &tokens, &rows)?;
     let types = typed(crew, source, &tokens, &rows, &names)?;
-    let tables = MeaningTables {
-        names: name_table(crew.alloc(), &rows, &names)?,
-        types: type_table(crew.alloc(), &rows, &types)?,
+    let arrays = MeaningArrays {
+        names: name_columns(crew.alloc(), &rows, &names)?,
+        types: type_columns(crew.alloc(), &rows, &types)?,
     };
     let analysis = Analysis {
         tokens,
@@ -258,51 +307,41 @@ fn tables_of_meaning(
         names,
         types,
     };
-    Ok((analysis, tables))
+    Ok((analysis, arrays))
 }
 
-// The last tables.
-fn tables_of_code(
-    crew: &impl Passes,
-    source: &[u8],
-    analysis: Analysis,
-) -> Result<CodeTables, Refusal>
-    requires analyzed { (t : Tree Prog) × IsAnalysis source.now t analysis }
-    ensures frames { IfOk result (λ tables. Shows source.now passes.Frames tables.frames.items) }
-    ensures code { IfOk result (λ tables. Shows source.now passes.Code tables.code.items) }
-    ensures stopped { IfErr result (Stops ((p : Program) → ¬ IsVerdict false source.now (Accepted p)) source.now) }
+// ---- the tables
+
+// Writes a table behind a line with its name.
+fn push_headed(out: &mut Vec<u8>, name: &[u8], columns: &[Column]) -> Result<(), AllocError>
+    ensures { OnOk result (out.new.items ≡ out.old.items ++ headed name.now columns.now) }
 {
-    one_verdict();
-    rows_are_few();
-    let (tokens, rows, names) = parts(analysis);
-    let depths = depths(crew, &rows)?;
-    let frames = frames_or_limit(crew, source, &tokens, &rows, &depths)?;
-    let words = emitted(crew, source, &rows, names, &depths, &frames)?;
-    Ok(CodeTables {
-        frames: frame_table(crew.alloc(), source, &tokens, &rows, &frames)?,
-        code: code_table(crew.alloc(), &words)?,
-    })
+    out.extend_from_slice(name)?;
+    out.push(b'\n')?;
+    push_table(out, columns)
+}
+
+// The same behind an empty line.
+fn push_apart(out: &mut Vec<u8>, name: &[u8], columns: &[Column]) -> Result<(), AllocError>
+    ensures { OnOk result (out.new.items ≡ out.old.items ++ apart name.now columns.now) }
+{
+    out.push(b'\n')?;
+    push_headed(out, name, columns)
 }
 
 // All tables, each behind a line with its pass's name.
-fn joined(
-    alloc: Global,
-    syntax: &SyntaxTables,
-    meaning: &MeaningTables,
-    code: &CodeTables,
-) -> Result<Vec<u8>, AllocError>
-    ensures { IfOk result (λ text. text.items ≡ headed (codes "tokens") syntax.now.tokens.items ++ apart (codes "parse") syntax.now.parse.items
-        ++ apart (codes "rows") syntax.now.rows.items ++ apart (codes "names") meaning.now.names.items ++ apart (codes "types") meaning.now.types.items
-        ++ apart (codes "frames") code.now.frames.items ++ apart (codes "code") code.now.code.items) }
+fn joined(alloc: Global, arrays: &AllArrays) -> Result<Vec<u8>, AllocError>
+    ensures { IfOk result (λ text. text.items ≡ all_tables (arrays_of arrays.now)) }
 {
     let mut out = Vec::new(alloc);
-    push_headed(&mut out, b"tokens", &syntax.tokens)?;
-    push_apart(&mut out, b"parse", &syntax.parse)?;
-    push_apart(&mut out, b"rows", &syntax.rows)?;
-    push_apart(&mut out, b"names", &meaning.names)?;
-    push_apart(&mut out, b"types", &meaning.types)?;
-    push_apart(&mut out, b"frames", &code.frames)?;
-    push_apart(&mut out, b"code", &code.code)?;
+    push_headed(&mut out, b"tokens", &arrays.syntax.tokens)?;
+    push_apart(&mut out, b"parse", &arrays.syntax.parse)?;
+    push_apart(&mut out, b"rows", &arrays.syntax.rows)?;
+    push_apart(&mut out, b"names", &arrays.meaning.names)?;
+    push_apart(&mut out, b"types", &arrays.meaning.types)?;
+    push_apart(&mut out, b"frames", &arrays.code.frames)?;
+    push_apart(&mut out, b"places", &arrays.code.places)?;
+    push_apart(&mut out, b"code", &arrays.code.code)?;
     Ok(out)
 }
 
@@ -311,10 +350,24 @@ fn all(crew: &impl Passes, source: &[u8]) -> Result<Vec<u8>, Refusal>
     ensures shown { IfOk result (λ text. Shows source.now passes.All text.items) }
     ensures stopped { IfErr result (IsUnshown source.now passes.All) }
 {
-    let (tokens, rows, syntax) = tables_to_rows(crew, source)?;
-    let (analysis, meaning) = tables_of_meaning(crew, source, tokens, rows)?;
-    let code = tables_of_code(crew, source, analysis)?;
-    Ok(joined(crew.alloc(), &syntax, &meaning, &code)?)
+    let (tokens, rows, syntax) = arrays_to_rows(crew, source)?;
+    let (analysis, meaning) = arrays_of_meaning(crew, source, tokens, rows)?;
+    let code = arrays_of_code(crew, source, analysis)?;
+    let arrays = AllArrays {
+        syntax,
+        meaning,
+        code,
+    };
+    Ok(joined(crew.alloc(), &arrays)?)
+}
+
+// The table of a pass's arrays.
+fn tabled(alloc: Global, arrays: Result<Vec<Column>, Refusal>) -> Result<Vec<u8>, Refusal>
+    ensures shown { (text : List ℕ) (pass : AnyPass) → IfOk arrays (λ columns. Arrays text pass columns.items) → IfOk result (λ table. Shows text pass table.items) }
+    ensures stopped { (text : List ℕ) (pass : AnyPass) → pass ≢ passes.All → IfErr arrays (AreNone text pass) → IfErr result (IsUnshown text pass) }
+{
+    let columns = arrays?;
+    Ok(table(alloc, &columns)?)
 }
 
 // The tables of a pass.
@@ -323,25 +376,86 @@ fn shown(crew: &impl Passes, source: &[u8], pass: Pass) -> Result<Vec<u8>, Refus
     ensures stopped { IfErr result (IsUnshown source.now pass) }
 {
     match pass {
-        Pass::Tokens => token_text(crew, source),
-        Pass::Parse => parse_text(crew, source),
-        Pass::Rows => row_text(crew, source),
-        Pass::Names => name_text(crew, source),
-        Pass::Types => type_text(crew, source),
-        Pass::Frames => frame_text(crew, source),
-        Pass::Code => code_text(crew, source),
+        Pass::Tokens => tabled(crew.alloc(), token_arrays(crew, source)),
+        Pass::Parse => tabled(crew.alloc(), parse_arrays(crew, source)),
+        Pass::Rows => tabled(crew.alloc(), row_arrays(crew, source)),
+        Pass::Names => tabled(crew.alloc(), name_arrays(crew, source)),
+        Pass::Types => tabled(crew.alloc(), type_arrays(crew, source)),
+        Pass::Frames => tabled(crew.alloc(), frame_arrays(crew, source)),
+        Pass::Places => tabled(crew.alloc(), place_arrays(crew, source)),
+        Pass::Code => tabled(crew.alloc(), code_arrays(crew, source)),
         Pass::All => all(crew, source),
     }
 }
 
 /// The tables of a pass for the source, or the line of a source that doesn't reach it.
 pub(crate) fn show(crew: &impl Passes, source: &[u8], pass: Pass) -> Result<Response, AllocError>
-    ensures { IfOk result (λ response. IsResponse (Show pass) source.now response) }
+    ensures { IfOk result (λ response. IsResponse (commands.Show pass) source.now response) }
 {
     one_tree_of_text();
     one_verdict();
     match shown(crew, source, pass) {
         Ok(text) => Ok(written(crew.alloc(), text)),
         Err(refusal) => refused(crew.alloc(), source, refusal),
+    }
+}
+
+// ---- the page
+
+// The page up to its tables: the source with its tokens, and the tree.
+fn drawn(alloc: Global, source: &[u8], tokens: &Tokens, rows: &Rows) -> Result<Vec<u8>, AllocError>
+    requires few { length rows.now ≤ most_rows }
+    ensures { IfOk result (λ page. page.items ≡ opening ++ source_box source.now tokens.now ++ tree_box rows.now) }
+{
+    let mut page = Vec::new(alloc);
+    push_opening(&mut page)?;
+    push_source_box(&mut page, source, tokens)?;
+    push_tree_box(alloc, &mut page, rows)?;
+    Ok(page)
+}
+
+// Writes the tables of the page, and its end.
+fn push_tables(page: &mut Vec<u8>, arrays: &AllArrays) -> Result<(), AllocError>
+    ensures { OnOk result (page.new.items ≡ page.old.items ++ flat_map (λ t. table_box t.0 t.1) (named_arrays (arrays_of arrays.now)) ++ closing) }
+{
+    push_table_box(page, b"tokens", &arrays.syntax.tokens)?;
+    push_table_box(page, b"parse", &arrays.syntax.parse)?;
+    push_table_box(page, b"rows", &arrays.syntax.rows)?;
+    push_table_box(page, b"names", &arrays.meaning.names)?;
+    push_table_box(page, b"types", &arrays.meaning.types)?;
+    push_table_box(page, b"frames", &arrays.code.frames)?;
+    push_table_box(page, b"places", &arrays.code.places)?;
+    push_table_box(page, b"code", &arrays.code.code)?;
+    push_closing(page)
+}
+
+// The page of the source.
+fn paged(crew: &impl Passes, source: &[u8]) -> Result<Vec<u8>, Refusal>
+    ensures paged { IfOk result (λ page. IsPage source.now page.items) }
+    ensures stopped { IfErr result (IsUnpaged source.now) }
+{
+    rows_are_few();
+    let (tokens, rows, syntax) = arrays_to_rows(crew, source)?;
+    let mut page = drawn(crew.alloc(), source, &tokens, &rows)?;
+    let (analysis, meaning) = arrays_of_meaning(crew, source, tokens, rows)?;
+    let code = arrays_of_code(crew, source, analysis)?;
+    let arrays = AllArrays {
+        syntax,
+        meaning,
+        code,
+    };
+    push_tables(&mut page, &arrays)?;
+    Ok(page)
+}
+
+/// The page of the source, or the line of a source that has none.
+pub(crate) fn page(crew: &impl Passes, source: &[u8]) -> Result<Response, AllocError>
+    ensures { IfOk result (λ response. IsResponse commands.Page source.now response) }
+{
+    one_tree_of_text();
+    one_verdict();
+    match paged(crew, source) {
+        Ok(text) => Ok(written(crew.alloc(), text)),
+        Err(stop) => refused(crew.alloc(), source, stop),
     }
 }

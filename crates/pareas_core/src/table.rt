@@ -60,16 +60,17 @@ fn response(alloc: Global, answer: TableAnswer) -> Result<Response, AllocError>
     }
 }
 
-/// The sizes of the tables of the grammar that the file spells, and the parse of the word, or the first fault of the file, of its
-/// grammar or of the word.
+/// The sizes of the tables of the grammar that the file spells, their entries where these are asked for, and the parse of the word, or the first fault of the
+/// file, of its grammar or of the word.
 pub(crate) fn table(
     crew: &impl Passes,
     file: &[u8],
     word: &Option<Word>,
+    entries: bool,
 ) -> Result<Response, AllocError>
-    ensures { IfOk result (λ response. IsResponse (Table word.now) file.now response) }
+    ensures { IfOk result (λ response. IsResponse (Table word.now entries) file.now response) }
 {
     files_have_one_answer();
-    let answer = table_answer(crew, file, spelling(word))?;
+    let answer = table_answer(crew, file, spelling(word), entries)?;
     response(crew.alloc(), answer)
 }

@@ -30,7 +30,10 @@ fn is_asked_to_parse(alloc: Global, words: &[&str], spelling: &str) -> Result<bo
     }
     match read(alloc, &all) {
         Ok(request) => match request.command {
-            Command::Table { word: Some(word) } => Ok(word.as_bytes() == spelling.as_bytes()),
+            Command::Table {
+                word: Some(word),
+                ..
+            } => Ok(word.as_bytes() == spelling.as_bytes()),
             _ => Ok(false),
         },
         Err(_) => Ok(false),
@@ -71,7 +74,11 @@ const LINES: &[(&str, &str)] = &[
     ("pareas emu --steps +007", "Emu { steps: 7 } 1 1"),
     ("pareas dump", "Dump 1 1"),
     ("pareas asm", "Asm 1 1"),
-    ("pareas table", "Table { word: None } 1 1"),
+    ("pareas table", "Table { word: None, entries: false } 1 1"),
+    (
+        "pareas table --entries",
+        "Table { word: None, entries: true } 1 1",
+    ),
     (
         "pareas drill --seed 1 --functions 2",
         "Drill { seed: 1, functions: 2 } 4 1024",
@@ -113,6 +120,12 @@ const LINES: &[(&str, &str)] = &[
     ("pareas table --word a b", ""),
     ("pareas table --word a --word a", ""),
     ("pareas table --word -a", ""),
+    ("pareas table --entries --entries", ""),
+    ("pareas table --entries=true", ""),
+    ("pareas table --entries true", ""),
+    ("pareas table --entries --chunk 1", ""),
+    ("pareas asm --entries", ""),
+    ("pareas show --entries", ""),
     ("pareas build --word a", ""),
     ("pareas asm --word a", ""),
     ("pareas --word a table", ""),
@@ -139,14 +152,28 @@ const LINES: &[(&str, &str)] = &[
     ),
     ("pareas show --pass types", "Show { pass: Types } 4 1024"),
     ("pareas show --pass frames", "Show { pass: Frames } 4 1024"),
+    ("pareas show --pass places", "Show { pass: Places } 4 1024"),
     ("pareas show --pass code", "Show { pass: Code } 4 1024"),
     ("pareas show --pass all", "Show { pass: All } 4 1024"),
+    ("pareas show --html", "Page 4 1024"),
+    ("pareas show --chunk 7 --html --workers=2", "Page 2 7"),
     ("pareas show", ""),
+    ("pareas show --workers 2", ""),
+    ("pareas show --html --pass rows", ""),
+    ("pareas show --pass=all --html", ""),
+    ("pareas show --html --pass row", ""),
+    ("pareas show --html --html", ""),
+    ("pareas show --html=true", ""),
+    ("pareas show --html rows", ""),
+    ("pareas show --html --fold", ""),
+    ("pareas build --html", ""),
+    ("pareas --html show", ""),
     ("pareas show rows", ""),
     ("pareas show --pass", ""),
     ("pareas show --pass=", ""),
     ("pareas show --pass row", ""),
     ("pareas show --pass Rows", ""),
+    ("pareas show --pass place", ""),
     ("pareas show --pass rows names", ""),
     ("pareas show --pass rows --pass rows", ""),
     ("pareas show --pass rows --fold", ""),
@@ -185,6 +212,7 @@ const SPELLINGS: &[(&[&str], &str)] = &[
     (&["pareas", "table", "--word", ""], ""),
     (&["pareas", "table", "--word="], ""),
     (&["pareas", "table", "--word=-a"], "-a"),
+    (&["pareas", "table", "--entries", "--word", "a"], "a"),
 ];
 
 #[test]
@@ -219,7 +247,9 @@ const REFUSALS: &[(&str, &str)] = &[
     ("pareas explain 304", UNKNOWN_CODE),
     ("pareas explain 50", CODE_OUT_OF_RANGE),
     ("pareas explain all", NO_NUMBER),
-    ("pareas show", NO_PASS),
+    ("pareas show", NO_VIEW),
+    ("pareas show --html --pass rows", TWO_VIEWS),
+    ("pareas show --pass row --html", TWO_VIEWS),
     ("pareas show --pass row", UNKNOWN_PASS),
 ];
 
@@ -326,6 +356,7 @@ Usage: pareas table [OPTIONS]
 
 Options:
       --word <W>  Parse this word: names separated by spaces
+      --entries   List the entries of the tables, a line each
   -h, --help      Print help
 ";
 
@@ -357,10 +388,11 @@ Options:
 const SHOW_HELP: &str = "\
 Shows what a pass makes of a program from standard input, as in `pareas show --pass rows`: prints its arrays as tables
 
-Usage: pareas show [OPTIONS] --pass <PASS>
+Usage: pareas show [OPTIONS]
 
 Options:
-      --pass <PASS>  Pass whose arrays are shown [possible values: tokens, parse, rows, names, types, frames, code, all]
+      --pass <PASS>  Pass whose arrays are shown [possible values: tokens, parse, rows, names, types, frames, places, code, all]
+      --html         Print one page of HTML with the arrays of all passes
       --workers <N>  Threads that share the work, 1 to 64 [default: 4]
       --chunk <C>    Items that a thread draws at a time, 1 to 65536 [default: 1024]
   -h, --help         Print help
@@ -420,7 +452,7 @@ error: invalid value 'all' for '<CODE>': invalid digit found in string
 For more information, try '--help'.
 ";
 
-const NO_PASS: &str = "\
+const NO_VIEW: &str = "\
 error: the following required arguments were not provided:
   --pass <PASS>
 
@@ -429,9 +461,17 @@ Usage: pareas show --pass <PASS>
 For more information, try '--help'.
 ";
 
+const TWO_VIEWS: &str = "\
+error: the argument '--html' cannot be used with '--pass <PASS>'
+
+Usage: pareas show --html
+
+For more information, try '--help'.
+";
+
 const UNKNOWN_PASS: &str = "\
 error: invalid value 'row' for '--pass <PASS>'
-  [possible values: tokens, parse, rows, names, types, frames, code, all]
+  [possible values: tokens, parse, rows, names, types, frames, places, code, all]
 
 For more information, try '--help'.
 ";

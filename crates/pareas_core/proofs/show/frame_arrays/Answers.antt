@@ -5,10 +5,10 @@ use Rattle.source_meaning.specs.Frames.{frame}
 use Rattle.source_meaning.specs.Grammar.{Tree, Prog, ast}
 use Rattle.front_end.specs.Laws.Counting.{tree_few}
 use Rattle.command_line.specs.declared.command.Pass.TheVariants.{Frames}
-use Rattle.pareas_core.specs.Responses.{IsUnshown}
+use Rattle.pareas_core.specs.Responses.{AreNone}
 use Rattle.pareas_core.proofs.Chosen.{handed_on}
-use Rattle.pareas_core.proofs.Showing.{passed_on, frames_only, shows_frames, stopped_by, unchecked}
-use Rattle.pareas_core.proofs.show.frame_text.Goals as goal
+use Rattle.pareas_core.proofs.Showing.{are_frames, frames_only, passed_on, stopped_by, unchecked}
+use Rattle.pareas_core.proofs.show.frame_arrays.Goals as goal
 
 pub depths-requires-clause-nodes : goal.depths-requires-clause-nodes
 depths-requires-clause-nodes g c κs within =
@@ -35,14 +35,14 @@ returns-clause-shown g c =
     let t = c.in_ok-analysis.ensures.ok in
     let deep = c.deref.ensures.value ∙ c.in_ok-depths.ensures (ast t.0) t.1.checked.shaped t.1.rows_are in
     let are = c.in_ok-frames.ensures.ok false t.0 t.1.checked t.1.rows_are deep in
-    shows_frames text c.in_ok-analysis.analysis.tokens c.in_ok-analysis.analysis.rows c.in_ok-frames.frames c.in_ok-frame_table.field-0.items t.0 t.1.checked t.1.tokens_are t.1.rows_are are c.in_ok-frame_table.ensures
+    are_frames text c.in_ok-analysis.analysis.tokens c.in_ok-analysis.analysis.rows c.in_ok-frames.frames c.in_ok-frame_columns.field-0.items t.0 t.1.checked t.1.tokens_are t.1.rows_are are c.in_ok-frame_columns.ensures
 
 pub returns-in_err-analysis-clause-stopped : goal.returns-in_err-analysis-clause-stopped
 returns-in_err-analysis-clause-stopped g c =
     let text = c.args.source.now in
     let last = c.limits_come_last.ensures in
     passed_on text c.from_residual.result c.in_err-analysis.field-0.0 c.from_residual.ensures.1
-    (λ none table is. let h = frames_only text table is in none h.0 h.1)
+    (λ none columns is. let h = frames_only text columns is in none h.0 h.1)
     (unchecked text (c.one_verdict.ensures false text) (last.frame false text) (last.code false text) (last.accepted false text) c.in_err-analysis.field-0.0 c.in_err-analysis.ensures.refused)
 
 pub returns-in_err-frames-clause-stopped : goal.returns-in_err-frames-clause-stopped
@@ -50,9 +50,9 @@ returns-in_err-frames-clause-stopped g c =
     let text = c.args.source.now in
     let t = c.in_ok-analysis.ensures.ok in
     let deep = c.deref.ensures.value ∙ c.in_ok-depths.ensures (ast t.0) t.1.checked.shaped t.1.rows_are in
-    handed_on (IsUnshown text Frames) c.from_residual-in_err-frames.result c.in_err-frames.field-0.0 c.from_residual-in_err-frames.ensures.1
+    handed_on (AreNone text Frames) c.from_residual-in_err-frames.result c.in_err-frames.field-0.0 c.from_residual-in_err-frames.ensures.1
     (stopped_by text c.in_err-frames.field-0.0 (c.in_err-frames.ensures.refused false t.0 t.1.checked t.1.rows_are deep) (c.in_err-frames.ensures.large false t.0 t.1.checked t.1.rows_are deep)
-    (λ some table is.
-    let h = frames_only text table is in
+    (λ some columns is.
+    let h = frames_only text columns is in
     let same : h.0 ≡ t.0 = c.one_tree_of_text.ensures text h.0 t.0 h.1.tree t.1.checked.tree in
     some (subst (λ (u : Tree Prog). find (λ f. nat_lt most_frame (frame f).bytes) (ast u) ≡ None) same h.2)))

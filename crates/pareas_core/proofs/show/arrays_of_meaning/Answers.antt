@@ -7,9 +7,9 @@ use Rattle.front_end.specs.Front.{IsChecked}
 use Rattle.front_end.specs.Laws.Counting.{tree_few}
 use Rattle.pareas_core.specs.Responses.{Stops}
 use Rattle.pareas_core.proofs.Chosen.{handed_on}
-use Rattle.pareas_core.proofs.NamesShown.{shows_names}
-use Rattle.pareas_core.proofs.Showing.{checked_as, shaped_as, shows_types, stopped}
-use Rattle.pareas_core.proofs.show.tables_of_meaning.Goals as goal
+use Rattle.pareas_core.proofs.NamesShown.{are_names}
+use Rattle.pareas_core.proofs.Showing.{are_types, checked_as, shaped_as, stopped}
+use Rattle.pareas_core.proofs.show.arrays_of_meaning.Goals as goal
 
 pub named-requires-clause-few : goal.named-requires-clause-few
 named-requires-clause-few g c κs within =
@@ -23,8 +23,8 @@ typed-requires-clause-few g c κs within =
     let h = tree_few c.args.source.now c.args.rows t.0 c.requires.lexed.fits t.1 (c.rows_are_few.ensures t.0) in
     omega arith
 
-pub name_table-requires : goal.name_table-requires
-name_table-requires g c =
+pub name_columns-requires : goal.name_columns-requires
+name_columns-requires g c =
     let t = c.requires.shaped in
     let h = tree_few c.args.source.now c.args.rows t.0 c.requires.lexed.fits t.1 (c.rows_are_few.ensures t.0) in
     record { few = omega arith }
@@ -51,18 +51,18 @@ returns-clause-names g c =
     let text = c.args.source.now in
     let t = c.requires.shaped in
     let named = c.shaped_is_named.ensures (ast t.0) t.1.shaped in
-    shows_names text c.args.rows c.in_ok-names.names c.in_ok-name_table.field-0.items t.0
+    are_names text c.args.rows c.in_ok-names.names c.in_ok-name_columns.field-0.items t.0
     (record { shaped = shaped_as text c.args.tokens c.args.rows t.0 c.requires.lexed t.1; scoped = c.in_ok-names.ensures.scoped t.0 t.1 }) t.1.are (c.in_ok-names.ensures.names t.0 t.1) named
-    (c.names_are_bindings.ensures.names (ast t.0) named) (c.names_are_bindings.ensures.calls (ast t.0) named) c.in_ok-name_table.ensures
+    (c.names_are_bindings.ensures.names (ast t.0) named) (c.names_are_bindings.ensures.calls (ast t.0) named) c.in_ok-name_columns.ensures
 
 pub returns-clause-types : goal.returns-clause-types
 returns-clause-types g c =
     let text = c.args.source.now in
     let t = c.requires.shaped in
     let are = c.in_ok-names.ensures.names t.0 t.1 in
-    shows_types text c.args.rows c.in_ok-types.types c.in_ok-type_table.field-0.items t.0
+    are_types text c.args.rows c.in_ok-types.types c.in_ok-type_columns.field-0.items t.0
     (checked_as text c.args.tokens c.args.rows t.0 c.requires.lexed t.1 (c.in_ok-names.ensures.scoped t.0 t.1) (c.in_ok-types.ensures.typed t.0 t.1 are)) t.1.are
-    (c.in_ok-types.ensures.types t.0 t.1 are) c.in_ok-type_table.ensures
+    (c.in_ok-types.ensures.types t.0 t.1 are) c.in_ok-type_columns.ensures
 
 pub returns-in_err-names-clause-stopped : goal.returns-in_err-names-clause-stopped
 returns-in_err-names-clause-stopped g c =

@@ -1,24 +1,24 @@
 use Rattle.std.proofs.Common.{◌∙◌, ap}
 use Rattle.source_meaning.specs.Grammar.{Tree, Prog, grammar}
-use Rattle.pass_tables.specs.Tables.{parse_table}
+use Rattle.pass_tables.specs.Tables.{parse_columns}
 use Rattle.pareas_core.specs.Responses.{Stops}
 use Rattle.pareas_core.specs.Shown.{IsShaped}
 use Rattle.pareas_core.proofs.Chosen.{handed_on}
-use Rattle.pareas_core.proofs.Showing.{passed_on, shows_tokens, shows_parse, shows_rows, stopped}
-use Rattle.pareas_core.proofs.show.tables_to_rows.Goals as goal
+use Rattle.pareas_core.proofs.Showing.{are_rows, are_steps, are_tokens, passed_on, stopped}
+use Rattle.pareas_core.proofs.show.arrays_to_rows.Goals as goal
 
 pub returns-clause-tokens : goal.returns-clause-tokens
-returns-clause-tokens g c = shows_tokens c.args.source.now c.in_ok-tokens.tokens c.in_ok-token_table.field-0.items c.in_ok-tokens.ensures.lexed c.in_ok-token_table.ensures
+returns-clause-tokens g c = are_tokens c.args.source.now c.in_ok-tokens.tokens c.in_ok-token_columns.field-0.items c.in_ok-tokens.ensures.lexed c.in_ok-token_columns.ensures
 
 pub returns-clause-parse : goal.returns-clause-parse
 returns-clause-parse g c =
     let t = c.in_ok-tokens.ensures.parsed in
-    shows_parse c.args.source.now _ _ c.in_ok-production_table.field-0.items t.0 c.in_ok-tokens.ensures.lexed t.1 t.2 (c.in_ok-production_table.ensures ∙ ap (parse_table grammar) c.deref-2.ensures.value)
+    are_steps c.args.source.now _ _ c.in_ok-production_arrays.field-0.items t.0 c.in_ok-tokens.ensures.lexed t.1 t.2 (c.in_ok-production_arrays.ensures ∙ ap (parse_columns grammar) c.deref-2.ensures.value)
 
 pub returns-clause-rows : goal.returns-clause-rows
 returns-clause-rows g c =
     let t = c.in_ok-rows.ensures.ok in
-    shows_rows c.args.source.now c.in_ok-tokens.tokens c.in_ok-rows.rows c.in_ok-row_table.field-0.items t.0 c.in_ok-tokens.ensures.lexed t.1 c.in_ok-row_table.ensures
+    are_rows c.args.source.now c.in_ok-tokens.tokens c.in_ok-rows.rows c.in_ok-row_columns.field-0.items t.0 c.in_ok-tokens.ensures.lexed t.1 c.in_ok-row_columns.ensures
 
 pub returns-in_err-tokens-clause-stopped : goal.returns-in_err-tokens-clause-stopped
 returns-in_err-tokens-clause-stopped g c =
