@@ -1,2 +1,3 @@
 -- Laws of the definitions, for the proofs of the crates above.
+pub mod FunctionRows
 pub mod Subtrees

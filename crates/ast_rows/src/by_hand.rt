@@ -1,7 +1,11 @@
-//! Where the subtrees of rows begin, and how many children rows have, looked for one by one.
-ghost use Rattle.std.specs.Prelude.{◌≡◌, ℕ, ◌<◌, ◌≤◌, ◌&&◌, ◌^◌, true, false, length, nat_lt, nat_le, slice_index_or, IfOk};
-ghost use Rattle.ast_rows.specs.NodeRows.{GoUp, count_at, counts_of, low_at, lows_of};
+//! Where the subtrees of rows begin, and which rows are functions, looked for one by one.
+ghost use Rattle.std.specs.Prelude.{◌≡◌, ℕ, ◌<◌, ◌≤◌, ◌&&◌, ◌^◌, [], ◌∷◌, ◌++◌, true, false, cond, length, nat_lt, nat_le, slice_index_or, IfOk};
+ghost use Rattle.source_meaning.specs.declared.kinds.Kind.TheVariants.{Program};
+ghost use Rattle.source_meaning.specs.Rows.{is_function};
+ghost use Rattle.ast_rows.specs.NodeRows.{GoUp, low_at, lows_of};
+ghost use Rattle.ast_rows.specs.FunctionRows.{function_mark, functions_before, functions_by};
 
+use source_meaning::Kind;
 use std::alloc::{AllocError, Global};
 
 /// Whether no parent stands before its row.
@@ -37,20 +41,6 @@ fn first_row(parents: &[u32], i: usize) -> usize
     low
 }
 
-// How many children row i has.
-fn children(parents: &[u32], i: usize) -> usize
-    ensures count { result ≡ count_at parents.now i }
-    ensures within { result ≤ i }
-{
-    let mut count = 0;
-    for k in 0..i {
-        if parents.get(k).copied().unwrap_or(0) as usize == i {
-            count += 1;
-        }
-    }
-    count
-}
-
 /// The first rows of all subtrees.
 pub(crate) fn all_lows(alloc: Global, parents: &[u32]) -> Result<Vec<u32>, AllocError>
     requires few { length parents.now ≤ 4294967295 }
@@ -63,14 +53,55 @@ pub(crate) fn all_lows(alloc: Global, parents: &[u32]) -> Result<Vec<u32>, Alloc
     Ok(lows)
 }
 
-/// How many children all rows have.
-pub(crate) fn all_counts(alloc: Global, parents: &[u32]) -> Result<Vec<u32>, AllocError>
-    requires few { length parents.now ≤ 4294967295 }
-    ensures { IfOk result (λ v. v.items ≡ counts_of parents.now) }
+// Whether row k is a function.
+fn is_function_row(kinds: &[Kind], k: usize) -> bool
+    ensures { result ≡ is_function (slice_index_or kinds.now k Program) }
 {
-    let mut counts = Vec::new(alloc);
-    for i in 0..parents.len() {
-        counts.push(children(parents, i) as u32)?;
+    let kind = kinds.get(k).copied().unwrap_or(Kind::Program);
+    kind.is_function()
+}
+
+// How many functions row k is.
+fn mark(kinds: &[Kind], k: usize) -> u32
+    ensures value { result ≡ function_mark (slice_index_or kinds.now k Program) }
+    ensures low { result ≤ 1 }
+{
+    if is_function_row(kinds, k) { 1 } else { 0 }
+}
+
+// A row behind those before it, if it is kept.
+fn push_if(keep: bool, k: u32, rows: &mut Vec<u32>) -> Result<(), AllocError>
+    ensures { IfOk result (λ _. rows.new.items ≡ rows.old.items ++ cond keep (k ∷ []) []) }
+{
+    if keep {
+        rows.push(k)?;
     }
-    Ok(counts)
+    Ok(())
+}
+
+/// The rows of functions.
+pub(crate) fn all_functions(alloc: Global, kinds: &[Kind]) -> Result<Vec<u32>, AllocError>
+    requires few { length kinds.now ≤ 4294967295 }
+    ensures { IfOk result (λ v. v.items ≡ functions_by kinds.now) }
+{
+    let mut rows = Vec::new(alloc);
+    for k in 0..kinds.len() {
+        push_if(is_function_row(kinds, k), k as u32, &mut rows)?;
+    }
+    Ok(rows)
+}
+
+/// How many functions stand before each row, and how many there are.
+pub(crate) fn all_owners(alloc: Global, kinds: &[Kind]) -> Result<Vec<u32>, AllocError>
+    requires few { length kinds.now ≤ 4294967295 }
+    ensures { IfOk result (λ v. v.items ≡ functions_before kinds.now) }
+{
+    let mut owners = Vec::new(alloc);
+    let mut count: u32 = 0;
+    for k in 0..kinds.len() {
+        owners.push(count)?;
+        count += mark(kinds, k);
+    }
+    owners.push(count)?;
+    Ok(owners)
 }

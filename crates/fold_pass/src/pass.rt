@@ -6,6 +6,7 @@ ghost use Rattle.source_meaning.specs.Rows.{post};
 ghost use Rattle.source_meaning.specs.Scope.{scope_faults};
 ghost use Rattle.source_meaning.specs.Shape.{shape_faults};
 ghost use Rattle.ast_rows.specs.NodeRows.{rows_from};
+ghost use Rattle.ast_rows.specs.FunctionRows.{functions_before, functions_by};
 ghost use Rattle.row_laws.specs.Climbed.{parents_by, place_at};
 ghost use Rattle.folding.specs.Folding.{folded_program};
 ghost use Rattle.folded_rows.specs.Columns.{AreConstants, columns_of, new_rows as rows_of, number_in};
@@ -20,9 +21,9 @@ use crate::complete::folding_rows;
 use crate::folded::{kinds, lows, meant, numbers, rank, tokens};
 use crate::rounds::constants;
 use crate::staying::{Staying, rows_that_stay};
-use ast_rows::{Names, Rows};
+use ast_rows::{FunctionColumns, Links, Names, Rows};
 use folded_rows::{folded_names_are, folded_rows_are, nothing_folds, rows_have_levels};
-use kin_pass::kin;
+use kin_pass::{functions, kin};
 use par_passes::Passes;
 use row_kin::Kin;
 use row_rules::{shaped_is_named, sites_are_rows};
@@ -66,22 +67,22 @@ fn new_columns(
     })
 }
 
-// Columns as rows: parents and places follow from the first rows of subtrees.
-fn lay(columns: NewColumns, kin: Kin) -> Rows
+// Columns as rows: parents and places follow from the first rows of subtrees, and the functions from the kinds.
+fn lay(columns: NewColumns, kin: Kin, functions: FunctionColumns) -> Rows
     requires tokens { length columns.tokens.items ≡ length columns.kinds.items }
     requires lows { length columns.lows.items ≡ length columns.kinds.items }
     requires kin { AreKin columns.lows.items kin }
+    requires functions { functions.rows.items ≡ functions_by columns.kinds.items }
+    requires owners { functions.owners.items ≡ functions_before columns.kinds.items }
     ensures { result ≡ rows_from 0 columns.kinds.items (parents_by columns.lows.items) columns.tokens.items
         (map (place_at (parents_by columns.lows.items)) (range_with_len 0 (length columns.lows.items))) }
 {
-    Rows::new(
-        columns.kinds,
-        kin.parents,
-        columns.tokens,
-        kin.places,
-        kin.lows,
-        kin.counts,
-    )
+    let links = Links {
+        parents: kin.parents,
+        places: kin.places,
+        lows: kin.lows,
+    };
+    Rows::new(columns.kinds, columns.tokens, links, functions)
 }
 
 // The rows that stay.
@@ -98,7 +99,8 @@ fn new_rows(
 {
     let columns = new_columns(crew, columns, values, staying)?;
     let kin = kin(crew, columns.lows.as_slice(), SHARES)?;
-    Ok(lay(columns, kin))
+    let functions = functions(crew, columns.kinds.as_slice())?;
+    Ok(lay(columns, kin, functions))
 }
 
 // What the rows that stay mean, and the variables that they declare.

@@ -3,3 +3,4 @@ pub mod Four
 pub mod Cutting
 pub mod Joining
 pub mod Together
+pub mod Summed

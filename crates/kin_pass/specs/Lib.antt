@@ -1,3 +1,4 @@
 pub mod Kin
 pub mod Lists
 pub mod Dealt
+pub mod Sums

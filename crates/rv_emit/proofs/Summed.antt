@@ -6,7 +6,7 @@ use Rattle.word_monoid.specs.Folds.{prefixes}
 use Rattle.word_monoid.specs.Laws.Folds.{length-prefixes}
 use Rattle.word_monoid.specs.Instances.{count}
 use Rattle.rv_select.specs.Laws.Laid.{prefix_first, prefix_step}
-use Rattle.rv_emit.specs.Sums.{sum32}
+use Rattle.kin_pass.specs.Sums.{sum32}
 
 pub same_items : (xs : List ℕ) → map (λ x. x) xs ≡ xs
 same_items [] = refl

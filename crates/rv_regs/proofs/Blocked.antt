@@ -14,7 +14,7 @@ use Rattle.depth_rules.specs.Lawful.{segments_are_monoid}
 use Rattle.rv_regs.specs.Blocks.{AreStarts, IsBlock, Reaches, stretch_before}
 use Rattle.rv_regs.proofs.Steps.{segments_accepted}
 
-same_items : {X : Type 0} (xs : List X) → map (λ x. x) xs ≡ xs
+pub same_items : {X : Type 0} (xs : List X) → map (λ x. x) xs ≡ xs
 same_items [] = refl
 same_items (x ∷ xs) = ap (λ l. x ∷ l) (same_items xs)
 

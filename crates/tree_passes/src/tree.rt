@@ -25,8 +25,8 @@ use crate::owned::owned_all;
 use crate::standings::{hand_out, reduce_all};
 use crate::starts::{Parse, add_up, tally_all};
 use crate::walked::{columns_all, join_columns};
-use ast_rows::{Rows, Tokens};
-use kin_pass::{kin, stretch_ends};
+use ast_rows::{Links, Rows, Tokens};
+use kin_pass::{functions, kin, stretch_ends};
 use par_passes::Passes;
 use phase_faults::{FaultKey, PhaseFault};
 use row_columns::{Columns, Source, add_program, stretches_are_rows, stretches_tell_faults};
@@ -93,14 +93,13 @@ fn lay_rows(crew: &impl Passes, columns: Columns) -> Result<Rows, AllocError>
         → v ≡ map (row_by_lists ms) (numbers_of ms)) }
 {
     let kin = kin(crew, columns.lows.as_slice(), SHARES)?;
-    Ok(lay(
-        columns.kinds,
-        kin.parents,
-        columns.tokens,
-        kin.places,
-        kin.lows,
-        kin.counts,
-    ))
+    let functions = functions(crew, columns.kinds.as_slice())?;
+    let links = Links {
+        parents: kin.parents,
+        places: kin.places,
+        lows: kin.lows,
+    };
+    Ok(lay(columns.kinds, columns.tokens, links, functions))
 }
 
 // The rows, or the fault that the least key tells.

@@ -11,6 +11,15 @@ kin-requires-clause-few g c κs within =
     let q = c.requires.few in
     omega arith
 
+pub functions-requires-clause-few : goal.functions-requires-clause-few
+functions-requires-clause-few g c κs within =
+    let n = new_many c.args.columns.now c.args.values.now c.in_ok-columns.columns.kinds.items c.in_ok-columns.columns.tokens.items c.in_ok-columns.columns.lows.items c.in_ok-columns.ensures in
+    let m = n.0 in
+    let f = kept_few c.args.columns.now c.args.values.now in
+    let e = ap length c.as_slice-2.ensures.value in
+    let q = c.requires.few in
+    omega arith
+
 pub lay-requires-clause-tokens : goal.lay-requires-clause-tokens
 lay-requires-clause-tokens g c =
     let n = new_many c.args.columns.now c.args.values.now c.in_ok-columns.columns.kinds.items c.in_ok-columns.columns.tokens.items c.in_ok-columns.columns.lows.items c.in_ok-columns.ensures in

@@ -1,6 +1,7 @@
 use Rattle.std.proofs.Common.{◌≡◌, ℕ, List, length, get_or, sym, ap, ◌∙◌, subst, arith}
 use Rattle.par_passes.specs.Laws.Calling.{if_ok}
-use Rattle.depth_rules.specs.Segments.{no_slots, functions_by, stretches_by}
+use Rattle.ast_rows.specs.FunctionRows.{functions_by}
+use Rattle.depth_rules.specs.Segments.{no_slots, stretches_by}
 use Rattle.rv_regs.specs.Blocks.{AreStarts}
 use Rattle.rv_regs.specs.FrameRows.{frame_row}
 use Rattle.rv_regs.proofs.Blocked.{stretch_is}

@@ -3,13 +3,13 @@
 use word_monoid::WordMonoid;
 
 /// Numbers of 32 bits, added. What is greater becomes the greatest.
-pub(crate) struct Sum;
+pub struct Sum;
 
 impl WordMonoid for Sum {
     type Item = u32;
 
-    ghost use Rattle.rv_emit.specs.Sums.{sum32};
-    ghost use Rattle.rv_emit.specs.Sums.{sum32_is_monoid};
+    ghost use Rattle.kin_pass.specs.Sums.{sum32};
+    ghost use Rattle.kin_pass.specs.Sums.{sum32_is_monoid};
 
     ghost ops = { λ _. sum32 };
 
