@@ -11,7 +11,7 @@ use Rattle.clap.specs.declared.builder.value_parser.ValueParser.TheVariants as p
 use Rattle.command_line.specs.declared.command.Command.{Command}
 use Rattle.command_line.specs.declared.command.Command.TheVariants.{Build, Run, Show, Page, Batch, Emu, Dump, Asm, Table, Drill, Explain}
 use Rattle.command_line.specs.declared.command.Pass.{Pass}
-use Rattle.command_line.specs.declared.command.Pass.TheVariants.{Tokens, Parse, Rows, Names, Types, Frames, Places, Code, All}
+use Rattle.command_line.specs.declared.command.Pass.TheVariants.{States, Tokens, Pairs, Parse, Rows, Names, Types, Frames, Places, Code, All}
 use Rattle.diagnostic_texts.specs.Explained.{explanation_of}
 
 -- ---- the command
@@ -134,7 +134,9 @@ flag_at name rows = option_map_or (λ text. bytes_eq text (codes "true")) (one_o
 -- the pass that a word names
 abbrev pub pass_named : Text → Option Pass
 pass_named word =
-    if bytes_eq word (codes "tokens") then Some Tokens
+    if bytes_eq word (codes "states") then Some States
+    else if bytes_eq word (codes "tokens") then Some Tokens
+    else if bytes_eq word (codes "pairs") then Some Pairs
     else if bytes_eq word (codes "parse") then Some Parse
     else if bytes_eq word (codes "rows") then Some Rows
     else if bytes_eq word (codes "names") then Some Names

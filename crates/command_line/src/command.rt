@@ -5,8 +5,12 @@ use crate::word::Word;
 /// A pass of the compiler, whose arrays can be shown.
 #[derive(Clone, Copy, PartialEq, Eq, Debug)]
 pub enum Pass {
+    /// The states of the lexer's automaton.
+    States,
     /// The tokens of the source.
     Tokens,
+    /// The pairs of neighbouring tokens, and what each tells the parser.
+    Pairs,
     /// The left parse of the tokens.
     Parse,
     /// The rows of the syntax tree.
@@ -45,7 +49,7 @@ pub enum Command {
         /// The pass.
         pass: Pass,
     },
-    /// Shows the source, its syntax tree and the arrays of all passes as one page of HTML.
+    /// Shows the source, its syntax tree and the arrays of all passes, but for states and pairs, as one page of HTML.
     Page,
     /// Compiles each of the sources on the input, which stand there as records, and writes an answer for each.
     Batch,

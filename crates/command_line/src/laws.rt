@@ -2,7 +2,7 @@
 ghost use Rattle.std.specs.Prelude.{◌≡◌, ◌⊎◌, ℕ, List, [], ◌∷◌, Some, None, true, false, codes, is_some};
 ghost use Rattle.clap.specs.Words.{fault_of};
 ghost use Rattle.command_line.specs.declared.command.Command.TheVariants.{Build, Run, Show, Page, Batch, Emu, Dump, Asm, Table, Drill, Explain};
-ghost use Rattle.command_line.specs.declared.command.Pass.TheVariants.{Rows, Places, All};
+ghost use Rattle.command_line.specs.declared.command.Pass.TheVariants.{States, Pairs, Rows, Places, All};
 ghost use Rattle.command_line.specs.Words.{Asked, IsNoCode, IsNoView, app, asked, known};
 ghost use Rattle.diagnostic_texts.specs.Explained.{explanation_of};
 
@@ -31,6 +31,8 @@ pub fn worked_words()
     ensures show { asked (codes "pareas" ∷ codes "show" ∷ codes "--pass" ∷ codes "rows" ∷ []) ≡ Some (record { command = Show Rows; workers = 4; chunk = 1024 }) }
     ensures show_all { asked (codes "pareas" ∷ codes "show" ∷ codes "--workers" ∷ codes "2" ∷ codes "--pass=all" ∷ []) ≡ Some (record { command = Show All; workers = 2; chunk = 1024 }) }
     ensures show_places { asked (codes "pareas" ∷ codes "show" ∷ codes "--pass" ∷ codes "places" ∷ []) ≡ Some (record { command = Show Places; workers = 4; chunk = 1024 }) }
+    ensures show_states { asked (codes "pareas" ∷ codes "show" ∷ codes "--pass" ∷ codes "states" ∷ []) ≡ Some (record { command = Show States; workers = 4; chunk = 1024 }) }
+    ensures show_pairs { asked (codes "pareas" ∷ codes "show" ∷ codes "--pass=pairs" ∷ []) ≡ Some (record { command = Show Pairs; workers = 4; chunk = 1024 }) }
     ensures page { asked (codes "pareas" ∷ codes "show" ∷ codes "--html" ∷ []) ≡ Some (record { command = Page; workers = 4; chunk = 1024 }) }
     ensures page_options { asked (codes "pareas" ∷ codes "show" ∷ codes "--workers" ∷ codes "2" ∷ codes "--html" ∷ codes "--chunk=7" ∷ []) ≡ Some (record { command = Page; workers = 2; chunk = 7 }) }
     ensures page_and_pass { asked (codes "pareas" ∷ codes "show" ∷ codes "--html" ∷ codes "--pass" ∷ codes "rows" ∷ []) ≡ None }

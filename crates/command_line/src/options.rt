@@ -184,7 +184,7 @@ fn pass<'a>(alloc: Global) -> Arg<'a>
     ensures local { result.global ≡ false }
 {
     let help =
-        "Pass whose arrays are shown [possible values: tokens, parse, rows, names, types, frames, places, code, all]";
+        "Pass whose arrays are shown [possible values: states, tokens, pairs, parse, rows, names, types, frames, places, code, all]";
     value_option(alloc, "pass", "PASS", value_parser!(String), help)
 }
 
@@ -193,7 +193,7 @@ fn html<'a>(alloc: Global) -> Arg<'a>
     ensures rule { rule_of result ≡ html_option }
     ensures local { result.global ≡ false }
 {
-    let help = "Print one page of HTML with the arrays of all passes";
+    let help = "Print one page of HTML with the arrays of all passes but states and pairs";
     flag_option(alloc, "html", help)
 }
 

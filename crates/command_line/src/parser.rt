@@ -94,7 +94,9 @@ fn pass_named(word: &str) -> Option<Pass>
     ensures { result ≡ pass_named word.now }
 {
     match word {
+        "states" => Some(Pass::States),
         "tokens" => Some(Pass::Tokens),
+        "pairs" => Some(Pass::Pairs),
         "parse" => Some(Pass::Parse),
         "rows" => Some(Pass::Rows),
         "names" => Some(Pass::Names),
@@ -116,7 +118,8 @@ fn pass(alloc: Global, word: &str) -> Result<Pass, Refusal>
     match pass_named(word) {
         Some(pass) => Ok(pass),
         None => Err(Refusal::Usage(format!(in alloc;
-            "error: invalid value '{word}' for '--pass <PASS>'\n  [possible values: tokens, parse, rows, names, types, frames, places, code, all]\n\nFor more information, try '--help'.\n"
+            "error: invalid value '{word}' for '--pass <PASS>'\n  [possible values: states, tokens, pairs, parse, rows, names, types, frames, places, code, all]\n\n\
+            For more information, try '--help'.\n"
         )?)),
     }
 }

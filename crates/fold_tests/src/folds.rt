@@ -71,7 +71,8 @@ fn expect(
     assert!(rt; rows.tokens() == due.tokens());
     assert!(rt; rows.places() == due.places());
     assert!(rt; rows.lows() == due.lows());
-    assert!(rt; rows.counts() == due.counts());
+    assert!(rt; rows.functions() == due.functions());
+    assert!(rt; rows.owners() == due.owners());
     assert!(rt; names.meant() == named.meant());
     assert!(rt; names.main() == named.main());
     Ok(())

@@ -1,5 +1,5 @@
 -- What is shown of a source is one text, and what refuses a source before a pass leaves nothing to show of it.
-use Rattle.std.proofs.Common.{◌≡◌, ◌≢◌, ◌∙◌, ℕ, ◌*◌, ◌<◌, ◌≤◌, ◌⊎◌, inl, inr, Bool, false, List, [], ◌++◌, length, map, Option, Some, None, nat_lt, Result, Ok, Err, refl, sym, ap, subst, arith}
+use Rattle.std.proofs.Common.{◌≡◌, ◌≢◌, ◌∙◌, ℕ, ◌-◌, ◌*◌, ◌<◌, ◌≤◌, ◌⊎◌, inl, inr, Bool, false, List, [], ◌∷◌, ◌++◌, length, map, Option, Some, None, nat_lt, Result, Ok, Err, refl, sym, ap, subst, arith}
 use Rattle.std.specs.Prelude.{IfErr, IsErrAnd}
 use Rattle.std.specs.List.{find}
 use Rattle.std.proofs.lemmas.Bool.{cases_lt}
@@ -7,30 +7,40 @@ use Rattle.limits.specs.Limits.{most_source, most_frame, most_code}
 use Rattle.ast_rows.specs.TokenRows.{TokenRow, row_of}
 use Rattle.command_line.specs.declared.command.Pass.{Pass}
 use Rattle.code_rules.specs.Pieces.{places, sizes}
-use Rattle.command_line.specs.declared.command.Pass.TheVariants.{Tokens, Parse, Rows, Names, Types, Frames, Places, Code, All}
+use Rattle.command_line.specs.declared.command.Pass.TheVariants.{States, Tokens, Pairs, Parse, Rows, Names, Types, Frames, Places, Code, All}
 use Rattle.front_end.specs.Front.{AreRows, AreTokens, IsChecked, IsRefused, IsRefusedBy, TellsThat}
 use Rattle.front_end.specs.declared.refusal.Refusal.{Refusal}
 use Rattle.front_end.specs.declared.refusal.Refusal.TheVariants.{Diagnostic, Limit, NoMemory}
+use Rattle.grammar_file.specs.Grammar.{Grammar, end_mark}
+use Rattle.grammar_file.specs.SyntaxPlace.{ended}
+use Rattle.llp_tables.specs.EntryTable.{AreTablesOf, EntryTable}
+use Rattle.llp_tables.specs.Tables.{AreTables, Entry}
+use Rattle.par_lexer.specs.Table.{lexer}
 use Rattle.pass_page.specs.Page.{page}
-use Rattle.pass_tables.specs.Tables.{token_columns, parse_columns, row_columns, name_columns, type_columns, function_names, frame_columns, place_columns, code_columns}
+use Rattle.pass_tables.specs.Tables.{state_columns, token_columns, pair_columns, parse_columns, row_columns, name_columns, type_columns, function_names, frame_columns, place_columns, code_columns}
 use Rattle.rv_code.specs.Code.{instructions, layout_of, words}
 use Rattle.source_meaning.specs.Ast.{Function, Program}
-use Rattle.source_meaning.specs.Frames.{Frame, frame}
-use Rattle.source_meaning.specs.Grammar.{grammar, Tree, Prog, ast, leaves, left_parse, number_of}
-use Rattle.source_meaning.specs.Lexemes.{tokens, place_of}
+use Rattle.source_meaning.specs.Frames.{Frame, depths, frame}
+use Rattle.source_meaning.specs.Grammar.{grammar, Tree, Prog, ast, leaves, left_parse, number_of, terminal_number}
+use Rattle.source_meaning.specs.Lexemes.{Token, tokens, place_of}
 use Rattle.source_meaning.specs.Rows.{Row, post}
 use Rattle.source_meaning.specs.Scope.{bindings, scope_faults}
 use Rattle.source_meaning.specs.Typing.{type_faults, types}
+use Rattle.source_meaning.specs.declared.kinds.Terminal.{Terminal}
 use Rattle.source_meaning.specs.declared.kinds.ValueType.{ValueType}
-use Rattle.verdict.specs.Verdict.{Verdict, Diagnosed, Limited, Accepted, IsVerdict}
+use Rattle.verdict.specs.Verdict.{Verdict, Diagnosed, Limited, Accepted, IsVerdict, word}
 use Rattle.pareas_core.specs.Coded.{AreFrames}
 use Rattle.pareas_core.specs.Responses.{Stops}
-use Rattle.pareas_core.specs.Shown.{AllArrays, AreAllArrays, Arrays, IsLexed, IsPage, IsParsed, IsShaped, IsScoped, Shows, token_arrays, parse_arrays, row_arrays, name_arrays, type_arrays, frame_arrays, place_arrays, code_arrays, one_shown, all_shown, page_shown, all_tables, named_arrays, numbers_declared}
+use Rattle.pareas_core.specs.Shown.{AllArrays, AreAllArrays, Arrays, IsLexed, IsPage, IsParsed, IsShaped, IsScoped, Shows, state_arrays, token_arrays, pair_arrays, parse_arrays, row_arrays, name_arrays, type_arrays, frame_arrays, place_arrays, code_arrays, one_shown, all_shown, page_shown, all_tables, named_arrays, numbers_declared}
 use Rattle.text_columns.specs.Columns.{Column, table_text}
 use Rattle.pareas_core.proofs.Chosen.{handed_on}
 
 abbrev pub OneTree : Type 0
 OneTree = (text : List ℕ) (t u : Tree Prog) → leaves t ≡ tokens text → leaves u ≡ tokens text → t ≡ u
+
+-- a grammar has one table of entries
+abbrev pub OneTable : Type 0
+OneTable = (g : Grammar) (entry other : ℕ → ℕ → Option Entry) → AreTables g entry → AreTables g other → (a b : ℕ) → entry a b ≡ other a b
 
 -- ---- the arrays of a pass
 
@@ -45,8 +55,27 @@ pub checked_as : (text : List ℕ) (ts : List TokenRow) (rs : List Row) (t : Tre
 checked_as text ts rs t are rows scoped typed =
     record { fits = are.fits; lexical = are.lexical; tree = rows.tree; shaped = rows.shaped; scoped = scoped; typed = typed }
 
+pub are_states : (text : List ℕ) (columns : List Column) → length text ≤ most_source → columns ≡ state_columns lexer text → Arrays text States columns
+are_states text columns fits is = subst (Arrays text States) (sym is) (state_arrays fits)
+
 pub are_tokens : (text : List ℕ) (ts : List TokenRow) (columns : List Column) → AreTokens text ts → columns ≡ token_columns text ts → Arrays text Tokens columns
 are_tokens text ts columns are is = subst (Arrays text Tokens) (sym (is ∙ ap (token_columns text) are.are)) (token_arrays (lexed_as text ts are))
+
+-- the terminals of tokens as a word of the grammar
+numbers_of : (ts : List Token) → map terminal_number (map (λ (r : TokenRow). r.terminal) (map row_of ts)) ≡ map (λ (t : Token). terminal_number t.terminal) ts
+numbers_of [] = refl
+numbers_of (t ∷ ts) = ap (λ (ns : List ℕ). terminal_number t.terminal ∷ ns) (numbers_of ts)
+
+-- the mark behind a text, by how wide a table is
+pub mark_is : (g : Grammar) (t : EntryTable) (width mark : ℕ) → AreTablesOf g t → width ≡ t.width → mark ≡ width - 1 → mark ≡ end_mark g
+mark_is g t width mark are a b = let w = are.width_is in omega arith
+
+pub are_pairs : (text : List ℕ) (ts : List TokenRow) (kinds : List Terminal) (columns : List Column) (t : Tree Prog) (entry : ℕ → ℕ → Option Entry) → AreTokens text ts → leaves t ≡ tokens text
+    → kinds ≡ map (λ (r : TokenRow). r.terminal) ts → AreTables grammar entry → columns ≡ pair_columns grammar entry (ended grammar (map terminal_number kinds)) → Arrays text Pairs columns
+are_pairs text ts kinds columns t entry are tree of_tokens table is =
+    let same : map terminal_number kinds ≡ word text =
+    ap (map terminal_number) (of_tokens ∙ ap (map (λ (r : TokenRow). r.terminal)) are.are) ∙ numbers_of (tokens text) in
+    subst (Arrays text Pairs) (sym (is ∙ ap (λ (w : List ℕ). pair_columns grammar entry (ended grammar w)) same)) (pair_arrays t entry (record { lexed = lexed_as text ts are; tree = tree }) table)
 
 pub are_steps : (text : List ℕ) (ts : List TokenRow) (ps : List ℕ) (columns : List Column) (t : Tree Prog) → AreTokens text ts → leaves t ≡ tokens text → map number_of (left_parse t) ≡ ps
     → columns ≡ parse_columns grammar ps → Arrays text Parse columns
@@ -67,18 +96,25 @@ pub are_frames : (text : List ℕ) (ts : List TokenRow) (rs : List Row) (fs : Li
 are_frames text ts rs fs columns t checked are rows framed is =
     subst (Arrays text Frames) (sym (is ∙ (λ i. frame_columns (function_names text (are i) (rows i)) (framed.frames_are i)))) (frame_arrays t checked framed.none_large)
 
-pub are_places : (text : List ℕ) (rs : List Row) (ss ps : List ℕ) (columns : List Column) (p : Program) → IsVerdict false text (Accepted p) → rs ≡ post p → ss ≡ sizes (layout_of p) p
-    → ps ≡ places (layout_of p) p → columns ≡ place_columns rs ss ps → Arrays text Places columns
-are_places text rs ss ps columns p accepted rows sized placed is =
-    subst (Arrays text Places) (sym (is ∙ (λ i. place_columns (rows i) (sized i) (placed i)))) (place_arrays p accepted)
+pub are_places : (text : List ℕ) (rs : List Row) (ds ss ps : List ℕ) (columns : List Column) (p : Program) → IsVerdict false text (Accepted p) → rs ≡ post p → ds ≡ depths p
+    → ss ≡ sizes (layout_of p) p → ps ≡ places (layout_of p) p → columns ≡ place_columns rs ds ss ps → Arrays text Places columns
+are_places text rs ds ss ps columns p accepted rows deep sized placed is =
+    subst (Arrays text Places) (sym (is ∙ (λ i. place_columns (rows i) (deep i) (sized i) (placed i)))) (place_arrays p accepted)
 
 pub are_words : (text ws : List ℕ) (columns : List Column) (p : Program) → IsVerdict false text (Accepted p) → ws ≡ words p → columns ≡ code_columns ws → Arrays text Code columns
 are_words text ws columns p accepted are is = subst (Arrays text Code) (sym (is ∙ ap code_columns are)) (code_arrays p accepted)
 
 -- ---- what the arrays of a pass tell of the source
 
+pub states_only : (text : List ℕ) (a : List Column) → Arrays text States a → (length text ≤ most_source) × (a ≡ state_columns lexer text)
+states_only text _ (state_arrays fits) = (fits, refl)
+
 pub tokens_only : (text : List ℕ) (a : List Column) → Arrays text Tokens a → IsLexed text × (a ≡ token_columns text (map row_of (tokens text)))
 tokens_only text _ (token_arrays is) = (is, refl)
+
+pub pairs_only : (text : List ℕ) (a : List Column) → Arrays text Pairs a → (t : Tree Prog) × (entry : ℕ → ℕ → Option Entry) × IsParsed text t × AreTables grammar entry
+    × (a ≡ pair_columns grammar entry (ended grammar (word text)))
+pairs_only text _ (pair_arrays t entry is table) = (t, entry, is, table, refl)
 
 pub parse_only : (text : List ℕ) (a : List Column) → Arrays text Parse a → (t : Tree Prog) × IsParsed text t × (a ≡ parse_columns grammar (map number_of (left_parse t)))
 parse_only text _ (parse_arrays t is) = (t, is, refl)
@@ -96,7 +132,7 @@ pub frames_only : (text : List ℕ) (a : List Column) → Arrays text Frames a �
     × (a ≡ frame_columns (function_names text (map row_of (tokens text)) (post (ast t))) (map (λ f. frame f) (ast t)))
 frames_only text _ (frame_arrays t is none) = (t, is, none, refl)
 
-pub places_only : (text : List ℕ) (a : List Column) → Arrays text Places a → (p : Program) × IsVerdict false text (Accepted p) × (a ≡ place_columns (post p) (sizes (layout_of p) p) (places (layout_of p) p))
+pub places_only : (text : List ℕ) (a : List Column) → Arrays text Places a → (p : Program) × IsVerdict false text (Accepted p) × (a ≡ place_columns (post p) (depths p) (sizes (layout_of p) p) (places (layout_of p) p))
 places_only text _ (place_arrays p is) = (p, is, refl)
 
 pub code_only : (text : List ℕ) (a : List Column) → Arrays text Code a → (p : Program) × IsVerdict false text (Accepted p) × (a ≡ code_columns (words p))
@@ -113,7 +149,9 @@ all_only table h = of_all All table refl h
   where
     of_all : {text : List ℕ} (pass : Pass) (table : List ℕ) → pass ≡ All → Shows text pass table → (all : AllArrays) × AreAllArrays text all × (table ≡ all_tables all)
     of_all pass _ is (all_shown all are) = (all, are, refl)
+    of_all States _ is (one_shown are) = cc
     of_all Tokens _ is (one_shown are) = cc
+    of_all Pairs _ is (one_shown are) = cc
     of_all Parse _ is (one_shown are) = cc
     of_all Rows _ is (one_shown are) = cc
     of_all Names _ is (one_shown are) = cc
@@ -129,9 +167,19 @@ paged_of text _ (page_shown t all is are) = (t, all, is, are, refl)
 
 -- ---- and only one thing
 
-module _ (text : List ℕ) (one_tree : OneTree) (one_verdict : (v w : Verdict) → IsVerdict false text v → IsVerdict false text w → v ≡ w) where
+module _ (text : List ℕ) (one_tree : OneTree) (one_entries : OneTable) (one_verdict : (v w : Verdict) → IsVerdict false text v → IsVerdict false text w → v ≡ w) where
+  one_states : (a b : List Column) → Arrays text States a → Arrays text States b → a ≡ b
+  one_states a b h k = (states_only text a h).1 ∙ sym (states_only text b k).1
+
   one_tokens : (a b : List Column) → Arrays text Tokens a → Arrays text Tokens b → a ≡ b
   one_tokens a b h k = (tokens_only text a h).1 ∙ sym (tokens_only text b k).1
+
+  one_pairs : (a b : List Column) → Arrays text Pairs a → Arrays text Pairs b → a ≡ b
+  one_pairs a b h k =
+      let x = pairs_only text a h in
+      let y = pairs_only text b k in
+      let same : x.1 ≡ y.1 = λ i. λ (m n : ℕ). one_entries grammar x.1 y.1 x.3 y.3 m n i in
+      x.4 ∙ ap (λ (entry : ℕ → ℕ → Option Entry). pair_columns grammar entry (ended grammar (word text))) same ∙ sym y.4
 
   one_parse : (a b : List Column) → Arrays text Parse a → Arrays text Parse b → a ≡ b
   one_parse a b h k =
@@ -164,7 +212,7 @@ module _ (text : List ℕ) (one_tree : OneTree) (one_verdict : (v w : Verdict) �
       x.3 ∙ ap (λ (t : Tree Prog). frame_columns (function_names text (map row_of (tokens text)) (post (ast t))) (map (λ f. frame f) (ast t))) (one_tree text x.0 y.0 x.1.tree y.1.tree) ∙ sym y.3
 
   placed : Verdict → List Column
-  placed (Accepted p) = place_columns (post p) (sizes (layout_of p) p) (places (layout_of p) p)
+  placed (Accepted p) = place_columns (post p) (depths p) (sizes (layout_of p) p) (places (layout_of p) p)
   placed v = []
 
   one_places : (a b : List Column) → Arrays text Places a → Arrays text Places b → a ≡ b
@@ -186,7 +234,9 @@ module _ (text : List ℕ) (one_tree : OneTree) (one_verdict : (v w : Verdict) �
       x.2 ∙ ap worded (one_verdict (Accepted x.0) (Accepted y.0) x.1 y.1) ∙ sym y.2
 
   one_arrays : (pass : Pass) (a b : List Column) → Arrays text pass a → Arrays text pass b → a ≡ b
+  one_arrays States a b h k = one_states a b h k
   one_arrays Tokens a b h k = one_tokens a b h k
+  one_arrays Pairs a b h k = one_pairs a b h k
   one_arrays Parse a b h k = one_parse a b h k
   one_arrays Rows a b h k = one_rows a b h k
   one_arrays Names a b h k = one_names a b h k
@@ -198,7 +248,9 @@ module _ (text : List ℕ) (one_tree : OneTree) (one_verdict : (v w : Verdict) �
 
   pub all_arrays : (x y : AllArrays) → AreAllArrays text x → AreAllArrays text y → x ≡ y
   all_arrays x y h k = λ i. record {
+    of_states = one_states x.of_states y.of_states h.states_are k.states_are i;
     of_tokens = one_tokens x.of_tokens y.of_tokens h.tokens_are k.tokens_are i;
+    of_pairs = one_pairs x.of_pairs y.of_pairs h.pairs_are k.pairs_are i;
     of_parse = one_parse x.of_parse y.of_parse h.parse_are k.parse_are i;
     of_rows = one_rows x.of_rows y.of_rows h.rows_are k.rows_are i;
     of_names = one_names x.of_names y.of_names h.names_are k.names_are i;
@@ -219,7 +271,9 @@ module _ (text : List ℕ) (one_tree : OneTree) (one_verdict : (v w : Verdict) �
       let x = all_only a h in
       let y = all_only b k in
       x.2 ∙ ap all_tables (all_arrays x.0 y.0 x.1 y.1) ∙ sym y.2
+  one_shown_text States a b h k = one_table States (λ e. cc) a b h k
   one_shown_text Tokens a b h k = one_table Tokens (λ e. cc) a b h k
+  one_shown_text Pairs a b h k = one_table Pairs (λ e. cc) a b h k
   one_shown_text Parse a b h k = one_table Parse (λ e. cc) a b h k
   one_shown_text Rows a b h k = one_table Rows (λ e. cc) a b h k
   one_shown_text Names a b h k = one_table Names (λ e. cc) a b h k
@@ -265,10 +319,10 @@ module _ (text : List ℕ) where
   stopped_call (Ok x) h a f = tt
   stopped_call (Err e) h a f = stopped e h a f
 
-  pub told_size : (r : Refusal) → IsRefused text r → most_source < length text → Stops (¬ IsLexed text) text r
-  told_size (Diagnostic code at) h large = (h false, λ is. let fits = is.fits in absurd (omega arith))
-  told_size (Limit code at bytes) h large = (h.1 false, λ is. let fits = is.fits in absurd (omega arith))
-  told_size NoMemory h large = tt
+  pub told_size : {A : Type 0} (r : Refusal) → IsRefused text r → most_source < length text → (¬ (length text ≤ most_source) → A) → Stops A text r
+  told_size (Diagnostic code at) h large f = (h false, f (λ fits. absurd (omega arith)))
+  told_size (Limit code at bytes) h large f = (h.1 false, f (λ fits. absurd (omega arith)))
+  told_size NoMemory h large f = tt
 
   -- ---- what the compiler says of a source without a fault of the phases up to types
 

@@ -5,7 +5,7 @@ use Rattle.pareas_core.specs.declared.status.Status.TheVariants as statuses
 use Rattle.pareas_core.specs.Headline.{CompilesTo, RunsAs, Runs, HasRun, read_by, End, HasFailed, GotPrefix, IsWritten}
 use Rattle.pareas_core.specs.Output.{Due, IsDue, at_place, noted}
 use Rattle.pareas_core.specs.Shown.{AllArrays, Arrays, IsPage, Shows}
-use Rattle.pareas_core.specs.declared.show.AllArrays.{AllArrays as KeptArrays}
+use Rattle.pareas_core.specs.declared.show.PageArrays.{PageArrays}
 use Rattle.text_columns.specs.Columns.{Column}
 use Rattle.verdict.specs.Verdict.{IsVerdict, Diagnosed, Limited}
 use Rattle.pareas_core.specs.declared.response.Output.{Output}
@@ -52,10 +52,12 @@ IsUnshown text pass = Stops ((table : List ℕ) → ¬ Shows text pass table) te
 abbrev pub IsUnpaged : List ℕ → Refusal → Type 0
 IsUnpaged text = Stops ((page : List ℕ) → ¬ IsPage text page) text
 
--- the arrays of all passes, as they are kept
-abbrev pub arrays_of : KeptArrays → AllArrays
-arrays_of kept = record {
+-- the arrays of all passes: those of states and of pairs, and those that the page has
+abbrev pub arrays_of : List Column → List Column → PageArrays → AllArrays
+arrays_of states pairs kept = record {
+  of_states = states;
   of_tokens = kept.syntax.tokens.items;
+  of_pairs = pairs;
   of_parse = kept.syntax.parse.items;
   of_rows = kept.syntax.rows.items;
   of_names = kept.meaning.names.items;

@@ -1,17 +1,20 @@
 // What the passes of the compiler make of a source, as tables of text and as a page.
 
-ghost use Rattle.std.specs.Prelude.{◌≡◌, ◌≢◌, ◌++◌, ◌≤◌, ℕ, List, false, codes, flat_map, length, map, IfErr, IfOk, OnOk};
+ghost use Rattle.std.specs.Prelude.{◌≡◌, ◌≢◌, ◌++◌, ◌∷◌, ◌≤◌, [], ℕ, List, Option, false, codes, flat_map, length, map, IfErr, IfOk, OnOk};
 ghost use Rattle.command_line.specs.declared.command.Command.TheVariants as commands;
 ghost use Rattle.command_line.specs.declared.command.Pass.{Pass as AnyPass};
 ghost use Rattle.command_line.specs.declared.command.Pass.TheVariants as passes;
 ghost use Rattle.front_end.specs.Front.{AreNamesOf, AreRows, AreTokens, IsAnalysis, IsChecked};
+ghost use Rattle.grammar_file.specs.SyntaxPlace.{ended};
 ghost use Rattle.limits.specs.Limits.{most_rows};
+ghost use Rattle.llp_tables.specs.Tables.{AreTables, Entry};
+ghost use Rattle.par_lexer.specs.Table.{lexer};
 ghost use Rattle.pass_page.specs.Page.{closing, opening, source_box, table_box, tree_box};
-ghost use Rattle.pass_tables.specs.Tables.{parse_columns};
+ghost use Rattle.pass_tables.specs.Tables.{pair_columns, parse_columns, state_columns};
 ghost use Rattle.source_meaning.specs.Ast.{Program};
-ghost use Rattle.source_meaning.specs.Grammar.{Tree, Prog, ast, grammar, leaves, left_parse, number_of};
+ghost use Rattle.source_meaning.specs.Grammar.{Tree, Prog, ast, grammar, leaves, left_parse, number_of, terminal_number};
 ghost use Rattle.source_meaning.specs.Lexemes.{tokens as tokens_in};
-ghost use Rattle.text_columns.specs.Columns.{table_text};
+ghost use Rattle.text_columns.specs.Columns.{Column as AnyColumn, table_text};
 ghost use Rattle.verdict.specs.Verdict.{Accepted, IsVerdict};
 ghost use Rattle.pareas_core.specs.Responses.{AreNone, IsResponse, IsUnpaged, IsUnshown, Stops, arrays_of};
 ghost use Rattle.pareas_core.specs.Shown.{AreAllArrays, Arrays, IsLexed, IsPage, IsParsed, IsScoped, IsShaped, Shows, all_tables, apart, headed, named_arrays};
@@ -23,19 +26,22 @@ use ast_rows::{Names, Rows, Tokens};
 use command_line::Pass;
 use front_end::{
     Analysis, Refusal, check_size, front, language_grammar, language_tables, lexed,
-    limits_come_last, named, parsed, shaped, typed,
+    limits_come_last, named, parsed, shaped, terminal_number, typed,
 };
 use name_pass::names_are_bindings;
+use par_lexer::automaton;
 use par_passes::Passes;
 use pass_page::{push_closing, push_opening, push_source_box, push_table_box, push_tree_box};
 use pass_tables::{
-    code_columns, frame_columns, name_columns, parse_columns, place_columns, row_columns, table,
-    token_columns, type_columns,
+    code_columns, frame_columns, name_columns, pair_columns, parse_columns, place_columns,
+    row_columns, state_columns, table, token_columns, type_columns,
 };
 use row_laws::rows_are_few;
 use row_rules::shaped_is_named;
 use rv_regs::depths;
+use source_meaning::Terminal;
 use std::alloc::{AllocError, Global};
+use table_text::tables_are_unique;
 use text_columns::{Column, push_table};
 use verdict::{one_tree_of_text, one_verdict};
 
@@ -52,6 +58,7 @@ fn tokens_of(crew: &impl Passes, source: &[u8]) -> Result<Tokens, Refusal>
 fn parse_of(crew: &impl Passes, source: &[u8]) -> Result<(Tokens, Vec<u16>), Refusal>
     ensures lexed { IfOk result (λ found. AreTokens source.now found.0) }
     ensures parsed { IfOk result (λ found. (t : Tree Prog) × (leaves t ≡ tokens_in source.now) × (map number_of (left_parse t) ≡ found.1.items)) }
+    ensures tabled { IfOk result (λ _. (entry : ℕ → ℕ → Option Entry) × AreTables grammar entry) }
     ensures stopped { IfErr result (Stops ((t : Tree Prog) → ¬ IsParsed source.now t) source.now) }
 {
     let tokens = tokens_of(crew, source)?;
@@ -86,6 +93,23 @@ fn names_of(crew: &impl Passes, source: &[u8]) -> Result<(Rows, Names), Refusal>
 
 // ---- the arrays of one pass
 
+// The arrays of the states of the lexer's automaton.
+fn arrays_of_states(alloc: Global, source: &[u8]) -> Result<Vec<Column>, AllocError>
+    ensures { IfOk result (λ columns. columns.items ≡ state_columns lexer source.now) }
+{
+    let automaton = automaton(alloc)?;
+    state_columns(alloc, &automaton, source)
+}
+
+// The same of a source that isn't too large.
+fn state_arrays(crew: &impl Passes, source: &[u8]) -> Result<Vec<Column>, Refusal>
+    ensures shown { IfOk result (λ columns. Arrays source.now passes.States columns.items) }
+    ensures stopped { IfErr result (AreNone source.now passes.States) }
+{
+    check_size(source)?;
+    Ok(arrays_of_states(crew.alloc(), source)?)
+}
+
 // The arrays of the tokens.
 fn token_arrays(crew: &impl Passes, source: &[u8]) -> Result<Vec<Column>, Refusal>
     ensures shown { IfOk result (λ columns. Arrays source.now passes.Tokens columns.items) }
@@ -93,6 +117,38 @@ fn token_arrays(crew: &impl Passes, source: &[u8]) -> Result<Vec<Column>, Refusa
 {
     let tokens = tokens_of(crew, source)?;
     Ok(token_columns(crew.alloc(), source, &tokens)?)
+}
+
+// The numbers of terminals, and behind them that of the mark behind a text.
+fn numbers_ended(alloc: Global, kinds: &[Terminal], end: u16) -> Result<Vec<u16>, AllocError>
+    ensures { IfOk result (λ v. v.items ≡ map terminal_number kinds.now ++ end ∷ []) }
+{
+    let mut numbers = Vec::with_capacity(alloc, kinds.len() + 1)?;
+    for kind in kinds {
+        numbers.push(terminal_number(*kind))?;
+    }
+    numbers.push(end)?;
+    Ok(numbers)
+}
+
+// The arrays of the pairs of a word of terminals, by the language's parse table.
+fn arrays_of_pairs(alloc: Global, kinds: &[Terminal]) -> Result<Vec<Column>, AllocError>
+    ensures { IfOk result (λ columns. (entry : ℕ → ℕ → Option Entry) × AreTables grammar entry
+        × (columns.items ≡ pair_columns grammar entry (ended grammar (map terminal_number kinds.now)))) }
+{
+    let grammar = language_grammar(alloc)?;
+    let tables = language_tables(alloc)?;
+    let word = numbers_ended(alloc, kinds, tables.width().saturating_sub(1))?;
+    pair_columns(alloc, &grammar, &tables, &word)
+}
+
+// The arrays of the pairs.
+fn pair_arrays(crew: &impl Passes, source: &[u8]) -> Result<Vec<Column>, Refusal>
+    ensures shown { IfOk result (λ columns. Arrays source.now passes.Pairs columns.items) }
+    ensures stopped { IfErr result (AreNone source.now passes.Pairs) }
+{
+    let (tokens, _) = parse_of(crew, source)?;
+    Ok(arrays_of_pairs(crew.alloc(), tokens.kinds())?)
 }
 
 // The arrays of a left parse by the language's grammar.
@@ -196,7 +252,7 @@ fn arrays_of_code(
     } = laid_out(crew, source, &rows, names, &depths, &frames)?;
     Ok(CodeArrays {
         frames: frame_columns(crew.alloc(), source, &tokens, &rows, &frames)?,
-        places: place_columns(crew.alloc(), &rows, &sizes, &places)?,
+        places: place_columns(crew.alloc(), &rows, &depths, &sizes, &places)?,
         code: code_columns(crew.alloc(), &words)?,
     })
 }
@@ -247,12 +303,32 @@ struct MeaningArrays {
     types: Vec<Column>,
 }
 
-// The arrays of all passes.
+// The arrays of the passes whose tables the page has.
 #[derive(Drop)]
-struct AllArrays {
+struct PageArrays {
     syntax: SyntaxArrays,
     meaning: MeaningArrays,
     code: CodeArrays,
+}
+
+// The arrays of what goes on within the first two phases: the states of the lexer's automaton, and what pairs of tokens tell the parser.
+#[derive(Drop)]
+struct InnerArrays {
+    states: Vec<Column>,
+    pairs: Vec<Column>,
+}
+
+// These arrays, of a source whose tokens have a parse tree.
+fn inner_arrays(alloc: Global, source: &[u8], tokens: &Tokens) -> Result<InnerArrays, AllocError>
+    requires lexed { AreTokens source.now tokens.now }
+    requires parsed { (t : Tree Prog) × (leaves t ≡ tokens_in source.now) }
+    ensures states { IfOk result (λ arrays. Arrays source.now passes.States arrays.states.items) }
+    ensures pairs { IfOk result (λ arrays. Arrays source.now passes.Pairs arrays.pairs.items) }
+{
+    Ok(InnerArrays {
+        states: arrays_of_states(alloc, source)?,
+        pairs: arrays_of_pairs(alloc, tokens.kinds())?,
+    })
 }
 
 // The first arrays, with what the passes behind them take. The left parse ends here.
@@ -262,6 +338,7 @@ fn arrays_to_rows(
 ) -> Result<(Tokens, Rows, SyntaxArrays), Refusal>
     ensures lexed { IfOk result (λ found. AreTokens source.now found.0) }
     ensures shaped { IfOk result (λ found. (t : Tree Prog) × AreRows source.now found.1 t) }
+    ensures tabled { IfOk result (λ _. (entry : ℕ → ℕ → Option Entry) × AreTables grammar entry) }
     ensures tokens { IfOk result (λ found. Arrays source.now passes.Tokens found.2.tokens.items) }
     ensures parse { IfOk result (λ found. Arrays source.now passes.Parse found.2.parse.items) }
     ensures rows { IfOk result (λ found. Arrays source.now passes.Rows found.2.rows.items) }
@@ -330,11 +407,13 @@ fn push_apart(out: &mut Vec<u8>, name: &[u8], columns: &[Column]) -> Result<(), 
 }
 
 // All tables, each behind a line with its pass's name.
-fn joined(alloc: Global, arrays: &AllArrays) -> Result<Vec<u8>, AllocError>
-    ensures { IfOk result (λ text. text.items ≡ all_tables (arrays_of arrays.now)) }
+fn joined(alloc: Global, inner: &InnerArrays, arrays: &PageArrays) -> Result<Vec<u8>, AllocError>
+    ensures { IfOk result (λ text. text.items ≡ all_tables (arrays_of inner.now.states.items inner.now.pairs.items arrays.now)) }
 {
     let mut out = Vec::new(alloc);
-    push_headed(&mut out, b"tokens", &arrays.syntax.tokens)?;
+    push_headed(&mut out, b"states", &inner.states)?;
+    push_apart(&mut out, b"tokens", &arrays.syntax.tokens)?;
+    push_apart(&mut out, b"pairs", &inner.pairs)?;
     push_apart(&mut out, b"parse", &arrays.syntax.parse)?;
     push_apart(&mut out, b"rows", &arrays.syntax.rows)?;
     push_apart(&mut out, b"names", &arrays.meaning.names)?;
@@ -351,14 +430,15 @@ fn all(crew: &impl Passes, source: &[u8]) -> Result<Vec<u8>, Refusal>
     ensures stopped { IfErr result (IsUnshown source.now passes.All) }
 {
     let (tokens, rows, syntax) = arrays_to_rows(crew, source)?;
+    let inner = inner_arrays(crew.alloc(), source, &tokens)?;
     let (analysis, meaning) = arrays_of_meaning(crew, source, tokens, rows)?;
     let code = arrays_of_code(crew, source, analysis)?;
-    let arrays = AllArrays {
+    let arrays = PageArrays {
         syntax,
         meaning,
         code,
     };
-    Ok(joined(crew.alloc(), &arrays)?)
+    Ok(joined(crew.alloc(), &inner, &arrays)?)
 }
 
 // The table of a pass's arrays.
@@ -376,7 +456,9 @@ fn shown(crew: &impl Passes, source: &[u8], pass: Pass) -> Result<Vec<u8>, Refus
     ensures stopped { IfErr result (IsUnshown source.now pass) }
 {
     match pass {
+        Pass::States => tabled(crew.alloc(), state_arrays(crew, source)),
         Pass::Tokens => tabled(crew.alloc(), token_arrays(crew, source)),
+        Pass::Pairs => tabled(crew.alloc(), pair_arrays(crew, source)),
         Pass::Parse => tabled(crew.alloc(), parse_arrays(crew, source)),
         Pass::Rows => tabled(crew.alloc(), row_arrays(crew, source)),
         Pass::Names => tabled(crew.alloc(), name_arrays(crew, source)),
@@ -394,6 +476,7 @@ pub(crate) fn show(crew: &impl Passes, source: &[u8], pass: Pass) -> Result<Resp
 {
     one_tree_of_text();
     one_verdict();
+    tables_are_unique();
     match shown(crew, source, pass) {
         Ok(text) => Ok(written(crew.alloc(), text)),
         Err(refusal) => refused(crew.alloc(), source, refusal),
@@ -415,8 +498,9 @@ fn drawn(alloc: Global, source: &[u8], tokens: &Tokens, rows: &Rows) -> Result<V
 }
 
 // Writes the tables of the page, and its end.
-fn push_tables(page: &mut Vec<u8>, arrays: &AllArrays) -> Result<(), AllocError>
-    ensures { OnOk result (page.new.items ≡ page.old.items ++ flat_map (λ t. table_box t.0 t.1) (named_arrays (arrays_of arrays.now)) ++ closing) }
+fn push_tables(page: &mut Vec<u8>, arrays: &PageArrays) -> Result<(), AllocError>
+    ensures { (states pairs : List AnyColumn) → OnOk result (page.new.items
+        ≡ page.old.items ++ flat_map (λ t. table_box t.0 t.1) (named_arrays (arrays_of states pairs arrays.now)) ++ closing) }
 {
     push_table_box(page, b"tokens", &arrays.syntax.tokens)?;
     push_table_box(page, b"parse", &arrays.syntax.parse)?;
@@ -439,7 +523,7 @@ fn paged(crew: &impl Passes, source: &[u8]) -> Result<Vec<u8>, Refusal>
     let mut page = drawn(crew.alloc(), source, &tokens, &rows)?;
     let (analysis, meaning) = arrays_of_meaning(crew, source, tokens, rows)?;
     let code = arrays_of_code(crew, source, analysis)?;
-    let arrays = AllArrays {
+    let arrays = PageArrays {
         syntax,
         meaning,
         code,
@@ -454,6 +538,7 @@ pub(crate) fn page(crew: &impl Passes, source: &[u8]) -> Result<Response, AllocE
 {
     one_tree_of_text();
     one_verdict();
+    tables_are_unique();
     match paged(crew, source) {
         Ok(text) => Ok(written(crew.alloc(), text)),
         Err(stop) => refused(crew.alloc(), source, stop),

@@ -53,9 +53,9 @@ const join = (...parts) => {
   group.forEach(e => groups.set(e, [...groups.get(e) || [], ...group]))
 }
 spans.forEach((span, k) => join(span, tokens[k]))
-join(...code.slice(0, number(places[0], 3)))
+join(...code.slice(0, number(places[0], 4)))
 rows.forEach((row, k) => {
-  const own = number(row, 3), first = number(places[k], 3), words = code.slice(first, first + number(places[k], 2))
+  const own = number(row, 3), first = number(places[k], 4), words = code.slice(first, first + number(places[k], 3))
   const frame = row.cells[1].textContent.startsWith('function') && frames.shift()
   join(nodes[k], ...tables.map(t => t[k]), spans[own], tokens[own], frame, ...words)
 })

@@ -1,4 +1,5 @@
 pub mod Tables
 pub mod ByRow
 pub mod FrameNumbers
+pub mod PairTexts
 pub mod Worked

@@ -3,13 +3,14 @@
 -- an instruction as in the listings of `rv_text`. The first column has the numbers of the lines. Texts of any length stand last, where no column is padded
 -- to them: so a table is linear in what it shows.
 use Rattle.std.specs.Prelude.{ℕ, zero, suc, ◌+◌, ◌*◌, Bool, true, false, List, [], ◌∷◌, ◌++◌, length, take, drop, map, filter, flat_map, Option, Some, None, unwrap_or, slice_index_or, codes, decimal, if◌then◌else◌}
-use Rattle.std.specs.List.{range_with_len}
+use Rattle.std.specs.List.{range_with_len, zip}
 use Rattle.std.specs.Option.{option_map_or}
 use Rattle.text_columns.specs.Columns.{Column, table_text}
 use Rattle.text_columns.specs.declared.column.Align.TheVariants.{Left, Right}
-use Rattle.grammar_file.specs.Grammar.{Grammar, Production, production, name_of}
+use Rattle.grammar_file.specs.Grammar.{Grammar, Production, begin_mark, production, name_of}
 use Rattle.grammar_file.specs.declared.symbols.Symbol.{Symbol}
-use Rattle.grammar_file.specs.declared.symbols.Symbol.TheVariants.{Nonterminal}
+use Rattle.grammar_file.specs.declared.symbols.Symbol.TheVariants.{Terminal, Nonterminal}
+use Rattle.llp_tables.specs.Tables.{Entry}
 use Rattle.source_meaning.specs.declared.kinds.ValueType.{ValueType}
 use Rattle.source_meaning.specs.declared.kinds.ValueType.TheVariants.{Int, Bool as BoolType}
 use Rattle.source_meaning.specs.declared.kinds.UnaryOp.{UnaryOp}
@@ -21,7 +22,9 @@ use Rattle.source_meaning.specs.declared.kinds.Kind.TheVariants.{Program, Functi
 use Rattle.source_meaning.specs.Grammar.{terminal_name}
 use Rattle.source_meaning.specs.Rows.{Row, parents, is_function}
 use Rattle.source_meaning.specs.Frames.{Frame}
+use Rattle.ast_rows.specs.NodeRows.{lows_of, parent_numbers}
 use Rattle.ast_rows.specs.TokenRows.{TokenRow}
+use Rattle.state_monoid.specs.Automaton.{Automaton, run, step}
 use Rattle.rv_text.specs.Written.{hexadecimal, line_of}
 
 -- ---- columns
@@ -43,6 +46,24 @@ numbers_or_dashes title ns = record { title = title; align = Right; cells = map 
 -- the numbers of so many places, from 0 on
 abbrev pub places : List ℕ → ℕ → Column
 places title count = numbers title (range_with_len 0 count)
+
+-- ---- the states of an automaton
+
+-- the state behind each byte of a text, from state 0 before the first one
+abbrev pub states_behind : Automaton → List ℕ → List ℕ
+states_behind d text = map (λ k. run d 0 (take (k + 1) text)) (range_with_len 0 (length text))
+
+-- the state behind each byte where this state is before it; the title is the state's number
+abbrev pub next_states : Automaton → List ℕ → ℕ → Column
+next_states d text s = numbers (decimal s) (map (step d s) text)
+
+-- each byte: its value, the state behind it, and for each state the one behind the byte where that state is before it
+abbrev pub state_columns : Automaton → List ℕ → List Column
+state_columns d text =
+    places (codes "byte") (length text)
+    ∷ numbers (codes "value") text
+    ∷ numbers (codes "state") (states_behind d text)
+    ∷ map (next_states d text) (range_with_len 0 d.states)
 
 -- ---- tokens
 
@@ -83,6 +104,46 @@ parse_columns g ps =
     places (codes "step") (length ps)
     ∷ numbers (codes "production") ps
     ∷ texts (codes "rule") (map (rule_text g) ps) ∷ []
+
+-- ---- pairs of terminals, and what a parse table has for them
+
+-- symbols' names, with one space between two
+abbrev pub names_text : Grammar → List Symbol → List ℕ
+names_text g [] = []
+names_text g (s ∷ ss) = symbol_text g s ++ symbols_text g ss
+
+-- numbers, each behind a space
+abbrev pub spaced_text : List ℕ → List ℕ
+spaced_text ns = flat_map (λ n. 32 ∷ decimal n) ns
+
+-- numbers, with one space between two
+abbrev pub numbers_text : List ℕ → List ℕ
+numbers_text [] = []
+numbers_text (n ∷ ns) = decimal n ++ spaced_text ns
+
+-- what an entry closes and opens, the uppermost symbol of the stack first, and by which productions; nothing where there is no entry
+abbrev pub closes_text : Grammar → Option Entry → List ℕ
+closes_text g e = option_map_or (λ x. names_text g x.closes) e []
+
+abbrev pub opens_text : Grammar → Option Entry → List ℕ
+opens_text g e = option_map_or (λ x. names_text g x.opens) e []
+
+abbrev pub productions_text : Option Entry → List ℕ
+productions_text e = option_map_or (λ x. numbers_text x.productions) e []
+
+-- each terminal of a word, behind the one before it; the mark before a text stands before the first one
+abbrev pub pairs_in : List ℕ → List (ℕ × ℕ)
+pairs_in word = zip (begin_mark ∷ word) word
+
+-- each of these pairs: the names of both terminals, and its entry
+abbrev pub pair_columns : Grammar → (ℕ → ℕ → Option Entry) → List ℕ → List Column
+pair_columns g entry word =
+    places (codes "pair") (length word)
+    ∷ texts (codes "before") (map (λ p. symbol_text g (Terminal p.0)) (pairs_in word))
+    ∷ texts (codes "next") (map (λ p. symbol_text g (Terminal p.1)) (pairs_in word))
+    ∷ texts (codes "closes") (map (λ p. closes_text g (entry p.0 p.1)) (pairs_in word))
+    ∷ texts (codes "opens") (map (λ p. opens_text g (entry p.0 p.1)) (pairs_in word))
+    ∷ texts (codes "productions") (map (λ p. productions_text (entry p.0 p.1)) (pairs_in word)) ∷ []
 
 -- ---- rows of the syntax tree
 
@@ -165,12 +226,13 @@ token_text_or_nothing text ts (Some k) = token_text text ts k
 abbrev pub own_text : List ℕ → List TokenRow → Row → List ℕ
 own_text text ts r = token_text_or_nothing text ts r.token
 
--- each row: the numbers of its parent and of its own token, its place among its siblings, and the token's bytes
+-- each row: the numbers of its parent and of its own token, its place among its siblings, the number of the first row of its subtree, and the token's bytes
 abbrev pub row_columns : List ℕ → List TokenRow → List Row → List Column
 row_columns text ts rs = rows_with rs
     (numbers_or_dashes (codes "parent") (parents 0 rs)
     ∷ numbers_or_dashes (codes "token") (map (λ r. r.token) rs)
     ∷ numbers (codes "place") (map (λ r. r.place) rs)
+    ∷ numbers (codes "first") (lows_of (parent_numbers 0 rs))
     ∷ texts (codes "text") (map (own_text text ts) rs) ∷ [])
 
 -- ---- what names mean
@@ -237,9 +299,9 @@ frame_columns names fs =
 
 -- ---- the pieces of the code
 
--- each row: how many words its piece of the code has, and the number of the first of them
-abbrev pub place_columns : List Row → List ℕ → List ℕ → List Column
-place_columns rs sizes firsts = rows_with rs (numbers (codes "words") sizes ∷ numbers (codes "first word") firsts ∷ [])
+-- each row: how many operands wait while it is computed, how many words its piece of the code has, and the number of the first of them
+abbrev pub place_columns : List Row → List ℕ → List ℕ → List ℕ → List Column
+place_columns rs ds sizes firsts = rows_with rs (numbers (codes "depth") ds ∷ numbers (codes "words") sizes ∷ numbers (codes "first word") firsts ∷ [])
 
 -- ---- the code
 
@@ -267,8 +329,14 @@ code_columns ws =
 
 -- ---- the tables
 
+abbrev pub state_table : Automaton → List ℕ → List ℕ
+state_table d text = table_text (state_columns d text)
+
 abbrev pub token_table : List ℕ → List TokenRow → List ℕ
 token_table text ts = table_text (token_columns text ts)
+
+abbrev pub pair_table : Grammar → (ℕ → ℕ → Option Entry) → List ℕ → List ℕ
+pair_table g entry word = table_text (pair_columns g entry word)
 
 abbrev pub parse_table : Grammar → List ℕ → List ℕ
 parse_table g ps = table_text (parse_columns g ps)
@@ -285,8 +353,8 @@ type_table rs types = table_text (type_columns rs types)
 abbrev pub frame_table : List (List ℕ) → List Frame → List ℕ
 frame_table names fs = table_text (frame_columns names fs)
 
-abbrev pub place_table : List Row → List ℕ → List ℕ → List ℕ
-place_table rs sizes firsts = table_text (place_columns rs sizes firsts)
+abbrev pub place_table : List Row → List ℕ → List ℕ → List ℕ → List ℕ
+place_table rs ds sizes firsts = table_text (place_columns rs ds sizes firsts)
 
 abbrev pub code_table : List ℕ → List ℕ
 code_table ws = table_text (code_columns ws)

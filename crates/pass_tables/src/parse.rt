@@ -8,8 +8,12 @@ use grammar_file::{Grammar, Production, Symbol};
 use std::alloc::{AllocError, Global};
 use text_columns::{Align, Column};
 
-// Writes a symbol's name behind a text.
-fn push_symbol(out: &mut Vec<u8>, grammar: &Grammar, symbol: Symbol) -> Result<(), AllocError>
+/// Writes a symbol's name behind a text.
+pub(crate) fn push_symbol(
+    out: &mut Vec<u8>,
+    grammar: &Grammar,
+    symbol: Symbol,
+) -> Result<(), AllocError>
     ensures { OnOk result (out.new.items ≡ out.old.items ++ symbol_text grammar.now symbol) }
 {
     match grammar.name_of(symbol) {
@@ -18,8 +22,12 @@ fn push_symbol(out: &mut Vec<u8>, grammar: &Grammar, symbol: Symbol) -> Result<(
     }
 }
 
-// Writes symbols behind a text, each behind a space.
-fn push_symbols(out: &mut Vec<u8>, grammar: &Grammar, symbols: &[Symbol]) -> Result<(), AllocError>
+/// Writes symbols behind a text, each behind a space.
+pub(crate) fn push_symbols(
+    out: &mut Vec<u8>,
+    grammar: &Grammar,
+    symbols: &[Symbol],
+) -> Result<(), AllocError>
     ensures { OnOk result (out.new.items ≡ out.old.items ++ symbols_text grammar.now symbols.now) }
 {
     for symbol in symbols {

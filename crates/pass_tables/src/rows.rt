@@ -212,8 +212,8 @@ fn own_texts(alloc: Global, text: &[u8], tokens: &Tokens, rows: &Rows) -> Result
     Ok(column)
 }
 
-/// The rows of a syntax tree: what each is, the numbers of its parent and of its own token, its place among its siblings, and the
-/// token's bytes.
+/// The rows of a syntax tree: what each is, the numbers of its parent and of its own token, its place among its siblings, the number of the first row of
+/// its subtree, and the token's bytes.
 pub fn row_columns(
     alloc: Global,
     text: &[u8],
@@ -228,12 +228,14 @@ pub fn row_columns(
     let own_tokens = own_tokens(alloc, rows)?;
     let own_texts = own_texts(alloc, text, tokens, rows)?;
     let places = numbers(alloc, b"place", rows.places())?;
+    let firsts = numbers(alloc, b"first", rows.lows())?;
     Ok(vec![in alloc;
         numbers_of_rows,
         kinds,
         parents,
         own_tokens,
         places,
+        firsts,
         own_texts,
     ]?)
 }

@@ -1,13 +1,15 @@
 //! The tables of a worked source, whose arrays are made by hand.
 
 use crate::{
-    code_columns, frame_columns, name_columns, parse_columns, place_columns, row_columns, table,
-    token_columns, type_columns,
+    code_columns, frame_columns, name_columns, pair_columns, parse_columns, place_columns,
+    row_columns, state_columns, table, token_columns, type_columns,
 };
 use ast_rows::{Names, Rows, Tokens, Types};
 use grammar_file::Grammar;
+use llp_tables::Tables;
 use rv_regs::{Frame, Frames};
 use source_meaning::{Kind, Terminal, UnaryOp, ValueType};
+use state_monoid::Dfa;
 use std::alloc::{AllocError, Global};
 use std::test::Fail;
 
@@ -116,6 +118,63 @@ fn rows(alloc: Global) -> Result<Rows, Fail> {
     Ok(Rows::from_columns(alloc, kinds, parents, tokens, places)?.ok_or("rows")?)
 }
 
+// An automaton that tells whether a word has an odd number of `a`.
+fn odd(alloc: Global) -> Result<Dfa, Fail> {
+    let mut table = Vec::new(alloc);
+    for place in 0..512_u16 {
+        let state = (place / 256) as u8;
+        let is_a = place % 256 == 97;
+        table.push(if is_a { u8::from(state == 0) } else { state })?;
+    }
+    if !Dfa::is_table(2, &table) {
+        return Err("no automaton".into());
+    }
+    Ok(Dfa::new(2, table))
+}
+
+#[test]
+fn states_of_a_word(rt: HostRuntime) -> Result<(), Fail> {
+    let alloc = rt.alloc();
+    let text = table(alloc, &state_columns(alloc, &odd(alloc)?, b"abba\xFF")?)?;
+    assert_eq!(rt;
+        text.as_slice(),
+        b"\
+byte  value  state  0  1
+   0     97      1  1  0
+   1     98      1  0  1
+   2     98      1  0  1
+   3     97      0  1  0
+   4    255      0  0  1
+"
+            .as_slice()
+    );
+    Ok(())
+}
+
+#[test]
+fn pairs_of_a_word(rt: HostRuntime) -> Result<(), Fail> {
+    let alloc = rt.alloc();
+    let grammar = Grammar::read(alloc, b"S -> a S b\nS ->")?;
+    let tables = Tables::build(alloc, &grammar).ok().ok_or("tables")?;
+    let text = table(
+        alloc,
+        &pair_columns(alloc, &grammar, &tables, &[1, 1, 2, 2, 3])?,
+    )?;
+    assert_eq!(rt;
+        text.as_slice(),
+        b"\
+pair  before  next  closes  opens  productions
+   0  BEGIN   a     S       S b    1
+   1  a       a     S       S b    1
+   2  a       b     S b            2
+   3  b       b     b
+   4  b       END   END
+"
+            .as_slice()
+    );
+    Ok(())
+}
+
 #[test]
 fn tokens_of_two_functions(rt: HostRuntime) -> Result<(), Fail> {
     let alloc = rt.alloc();
@@ -189,19 +248,19 @@ fn rows_of_two_functions(rt: HostRuntime) -> Result<(), Fail> {
     assert_eq!(rt;
         text.as_slice(),
         b"\
-row  kind           parent  token  place  text
-  0  parameter int       5      4      0  n
-  1  name                2     13      0  n
-  2  unary -             3     12      0  -
-  3  return              4     11      0  return
-  4  block               5     10      1  {
-  5  function int       11      1      0  f
-  6  number 1            7     26      0  1
-  7  call                8     24      0  f
-  8  return              9     23      0  return
-  9  block              10     22      0  {
- 10  function int       11     17      1  main
- 11  program             -      -      0
+row  kind           parent  token  place  first  text
+  0  parameter int       5      4      0      0  n
+  1  name                2     13      0      1  n
+  2  unary -             3     12      0      1  -
+  3  return              4     11      0      1  return
+  4  block               5     10      1      1  {
+  5  function int       11      1      0      0  f
+  6  number 1            7     26      0      6  1
+  7  call                8     24      0      6  f
+  8  return              9     23      0      6  return
+  9  block              10     22      0      6  {
+ 10  function int       11     17      1      6  main
+ 11  program             -      -      0      0
 "
             .as_slice()
     );
@@ -303,28 +362,29 @@ function  registers  spills  variables  bytes  name
 #[test]
 fn pieces_of_two_functions(rt: HostRuntime) -> Result<(), Fail> {
     let alloc = rt.alloc();
+    let depths = [0, 0, 0, 0, 0, 0, 1, 0, 0, 0, 0, 0];
     let sizes = [0, 1, 1, 2, 0, 12, 1, 3, 2, 0, 5, 0];
     let firsts = [9, 9, 10, 11, 13, 13, 25, 26, 29, 31, 31, 36];
     let text = table(
         alloc,
-        &place_columns(alloc, &rows(alloc)?, &sizes, &firsts)?,
+        &place_columns(alloc, &rows(alloc)?, &depths, &sizes, &firsts)?,
     )?;
     assert_eq!(rt;
         text.as_slice(),
         b"\
-row  kind           words  first word
-  0  parameter int      0           9
-  1  name               1           9
-  2  unary -            1          10
-  3  return             2          11
-  4  block              0          13
-  5  function int      12          13
-  6  number 1           1          25
-  7  call               3          26
-  8  return             2          29
-  9  block              0          31
- 10  function int       5          31
- 11  program            0          36
+row  kind           depth  words  first word
+  0  parameter int      0      0           9
+  1  name               0      1           9
+  2  unary -            0      1          10
+  3  return             0      2          11
+  4  block              0      0          13
+  5  function int       0     12          13
+  6  number 1           1      1          25
+  7  call               0      3          26
+  8  return             0      2          29
+  9  block              0      0          31
+ 10  function int       0      5          31
+ 11  program            0      0          36
 "
             .as_slice()
     );

@@ -1,13 +1,24 @@
 //! Worked tables. Each function does nothing; its contract is the computation.
 
 ghost use Rattle.std.specs.Prelude.{◌≡◌, ◌++◌, [], ◌∷◌, codes, map};
-ghost use Rattle.source_meaning.specs.Frames.{frame};
+ghost use Rattle.source_meaning.specs.Frames.{depths, frame};
 ghost use Rattle.source_meaning.specs.Grammar.{grammar};
 ghost use Rattle.source_meaning.specs.Scope.{bindings};
 ghost use Rattle.source_meaning.specs.Typing.{types};
 ghost use Rattle.source_meaning.specs.Worked.{assigned, nested, nothing, program_of, seven};
-ghost use Rattle.pass_tables.specs.Tables.{bound_tokens, code_table, declared_numbers, frame_table, function_names, name_table, parse_table, place_table, row_table, token_table, type_table};
-ghost use Rattle.pass_tables.specs.Worked.{meant_in_assigned, numbers_in_assigned, parse_of, rows_of, tokens_of};
+ghost use Rattle.pass_tables.specs.Tables.{bound_tokens, code_table, declared_numbers, frame_table, function_names, name_table, pair_table, parse_table, place_table, row_table, state_table, token_table, type_table};
+ghost use Rattle.pass_tables.specs.Worked.{brackets, entry_of_brackets, meant_in_assigned, numbers_in_assigned, odd, parse_of, rows_of, tokens_of};
+
+/// The states of an automaton that tells whether a word has an odd number of `a`, along two words.
+pub fn worked_states()
+    ensures word { state_table odd (codes "abba") ≡
+        codes "byte  value  state  0  1\n"
+        ++ codes "   0     97      1  1  0\n"
+        ++ codes "   1     98      1  0  1\n"
+        ++ codes "   2     98      1  0  1\n"
+        ++ codes "   3     97      0  1  0\n" }
+    ensures empty { state_table odd [] ≡ codes "byte  value  state  0  1\n" }
+{}
 
 /// The tokens of `fn main(): int { return 7; }`.
 pub fn worked_tokens()
@@ -24,6 +35,21 @@ pub fn worked_tokens()
         ++ codes "    8  num          24       1  7\n"
         ++ codes "    9  ;            25       1  ;\n"
         ++ codes "   10  }            27       1  }\n" }
+{}
+
+/// The pairs of `a a b b` by the grammar `S -> a S b`, `S ->`, and of a word with a pair that has no entry.
+pub fn worked_pairs()
+    ensures sentence { pair_table brackets entry_of_brackets (1 ∷ 1 ∷ 2 ∷ 2 ∷ 3 ∷ []) ≡
+        codes "pair  before  next  closes  opens  productions\n"
+        ++ codes "   0  BEGIN   a     S       S b    1\n"
+        ++ codes "   1  a       a     S       S b    1\n"
+        ++ codes "   2  a       b     S b            2\n"
+        ++ codes "   3  b       b     b\n"
+        ++ codes "   4  b       END   END\n" }
+    ensures no_entry { pair_table brackets entry_of_brackets (2 ∷ 1 ∷ []) ≡
+        codes "pair  before  next  closes  opens  productions\n"
+        ++ codes "   0  BEGIN   b     b\n"
+        ++ codes "   1  b       a\n" }
 {}
 
 /// The left parse of `fn main(): int { }`, and numbers that no production has.
@@ -46,12 +72,12 @@ pub fn worked_parses()
 /// The rows of `fn main(): int { return 7; }`.
 pub fn worked_rows()
     ensures { row_table seven.text (tokens_of seven) (rows_of seven) ≡
-        codes "row  kind          parent  token  place  text\n"
-        ++ codes "  0  number 7           1      8      0  7\n"
-        ++ codes "  1  return             2      7      0  return\n"
-        ++ codes "  2  block              3      6      0  {\n"
-        ++ codes "  3  function int       4      1      0  main\n"
-        ++ codes "  4  program            -      -      0\n" }
+        codes "row  kind          parent  token  place  first  text\n"
+        ++ codes "  0  number 7           1      8      0      0  7\n"
+        ++ codes "  1  return             2      7      0      0  return\n"
+        ++ codes "  2  block              3      6      0      0  {\n"
+        ++ codes "  3  function int       4      1      0      0  main\n"
+        ++ codes "  4  program            -      -      0      0\n" }
 {}
 
 /// What the names of `fn main(): int { var x: int = 1; return x + (x = 3); }` mean.
@@ -99,13 +125,13 @@ pub fn worked_frames()
 
 /// The pieces of `fn main(): int { return 7; }`, behind nine words that belong to no row.
 pub fn worked_pieces()
-    ensures { place_table (rows_of seven) (1 ∷ 2 ∷ 0 ∷ 5 ∷ 0 ∷ []) (9 ∷ 10 ∷ 12 ∷ 12 ∷ 17 ∷ []) ≡
-        codes "row  kind          words  first word\n"
-        ++ codes "  0  number 7          1           9\n"
-        ++ codes "  1  return            2          10\n"
-        ++ codes "  2  block             0          12\n"
-        ++ codes "  3  function int      5          12\n"
-        ++ codes "  4  program           0          17\n" }
+    ensures { place_table (rows_of seven) (depths (program_of seven)) (1 ∷ 2 ∷ 0 ∷ 5 ∷ 0 ∷ []) (9 ∷ 10 ∷ 12 ∷ 12 ∷ 17 ∷ []) ≡
+        codes "row  kind          depth  words  first word\n"
+        ++ codes "  0  number 7          0      1           9\n"
+        ++ codes "  1  return            0      2          10\n"
+        ++ codes "  2  block             0      0          12\n"
+        ++ codes "  3  function int      0      5          12\n"
+        ++ codes "  4  program           0      0          17\n" }
 {}
 
 /// Three instructions, and a word that is none.

@@ -35,8 +35,8 @@ const MEANT: [u32; 18] = [
     NONE, 0, NONE, NONE, 4, NONE, NONE, 6, 4, 6, 9, NONE, NONE, 6, NONE, NONE, 16, NONE,
 ];
 
-// How many variables stand before each row in its function, its parameters first.
-const NUMBERS: [u32; 18] = [0, 1, 1, 1, 1, 0, 0, 1, 1, 1, 2, 2, 2, 2, 2, 2, 2, 0];
+// How many variables stand before each row with a name in its function, its parameters first; 0 at other rows.
+const NUMBERS: [u32; 18] = [0, 1, 0, 0, 1, 0, 0, 1, 1, 1, 2, 0, 0, 2, 0, 0, 2, 0];
 
 fn names_are_right(crew: &impl Passes) -> Result<bool, Fail> {
     let names = analysed(crew, BINDINGS)?.names;
@@ -221,10 +221,10 @@ const BLOCKS: &[u8] =
 // In how many passes of names, types, depths, and depths with frames two workers meet, and in how many one draws alone: the ends of three variables, and both
 // levels of their minima, are one worker's.
 const MEETINGS: [(&[u8], (u64, u64)); 4] = [
-    (BINDINGS, (6, 3)),
-    (BINDINGS, (4, 0)),
-    (BINDINGS, (3, 0)),
-    (BLOCKS, (8, 0)),
+    (BINDINGS, (2, 3)),
+    (BINDINGS, (2, 0)),
+    (BINDINGS, (2, 0)),
+    (BLOCKS, (6, 0)),
 ];
 
 #[test]

@@ -22,6 +22,7 @@ fn rows_of_a_function(rt: HostRuntime) -> Result<(), Fail> {
     let places = vec![in alloc; 0, 1, 0, 0, 0, 0, 0]?;
     let rows = Rows::from_columns(alloc, kinds, parents, tokens, places)?.ok_or("rows")?;
     assert!(rt; rows.lows() == [0, 1, 0, 0, 0, 0, 0].as_slice());
-    assert!(rt; rows.counts() == [0, 0, 2, 1, 1, 1, 1].as_slice());
+    assert!(rt; rows.functions() == [5].as_slice());
+    assert!(rt; rows.owners() == [0, 0, 0, 0, 0, 0, 1, 1].as_slice());
     Ok(())
 }

@@ -440,8 +440,8 @@ fn two_workers_meet_at_rows(rt: HostRuntime) -> Result<(), Fail> {
         Ok(found) => assert!(rt; found.parents() == LEFT.2),
         Err(_) => assert!(rt; false),
     }
-    // the tokens of rows, three passes over stretches of the parse, and two over stretches of the rows: faults and kin
-    assert_eq!(rt; gate.counts(), (6, 0));
+    // the tokens of rows, three passes over stretches of the parse, two over stretches of the rows, for faults and kin, and two over the rows, for functions
+    assert_eq!(rt; gate.counts(), (8, 0));
     Ok(())
 }
 

@@ -161,7 +161,7 @@ fn two_workers_meet(rt: HostRuntime) -> Result<(), Fail> {
     let gate = Meeting::new();
     let crew = at(&rt, rt.alloc(), (2, 1), &gate)?;
     expect(&rt, &crew, &seven, SEVEN)?;
-    // four passes for columns, one over the only frame and one for the layout, one for sizes, two for places, two for words
-    assert_eq!(rt; gate.counts(), (10, 1));
+    // two passes for columns, one over the only frame and one for the layout, one for sizes, two for places, two for words
+    assert_eq!(rt; gate.counts(), (8, 1));
     Ok(())
 }

@@ -100,21 +100,21 @@ fn passes_of_build<R: Threads + Abort + Sync>(rt: &R, alloc: Global) -> Result<P
 }
 
 // The passes of each phase of the front over a function that returns a number: of tokens (of which one is over the few bytes of the stretches' fronts),
-// parse, rows, names (of which one is over the only declaration) and types.
-const PHASES: [Passed; 5] = [(1, 1), (3, 0), (6, 0), (5, 1), (4, 0)];
+// parse, rows, names and types.
+const PHASES: [Passed; 5] = [(1, 1), (3, 0), (8, 0), (2, 0), (2, 0)];
 
 // Those of depths, frames, columns, sizes, places and words. Three are over the only function, and no block of the rows is whole, so there is none over
 // blocks.
-const CODE: Passed = (13, 3);
+const CODE: Passed = (9, 3);
 
 // A function with more than one block of rows, whose result can be folded.
 const LONG: &[u8] =
     b"fn main(): int { 0; 0; 0; 0; 0; 0; 0; 0; 0; 0; 0; 0; 0; 0; 0; 0; 0; 0; 0; 0; 0; 0; 0; 0; 0; 0; 0; 0; 0; 0; 0; 0; 0; 0; 0; 0; 0; 0; 0; 0; return 3+4; }";
 
-const LONG_CODE: Passed = (15, 3);
+const LONG_CODE: Passed = (11, 3);
 
 // Those of folding too, of which one is over the only operator.
-const FOLDED_CODE: Passed = (31, 4);
+const FOLDED_CODE: Passed = (29, 4);
 
 #[test]
 fn two_workers_meet_in_each_pass(rt: HostRuntime) -> Result<(), Fail> {

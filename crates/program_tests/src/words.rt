@@ -140,7 +140,9 @@ const LINES: &[(&str, &str)] = &[
     ("pareas build --fold --fold", ""),
     ("pareas run --fold=true", ""),
     ("pareas run --fold true", ""),
+    ("pareas show --pass states", "Show { pass: States } 4 1024"),
     ("pareas show --pass tokens", "Show { pass: Tokens } 4 1024"),
+    ("pareas show --pass pairs", "Show { pass: Pairs } 4 1024"),
     ("pareas show --pass=parse", "Show { pass: Parse } 4 1024"),
     (
         "pareas show --workers 2 --pass rows",
@@ -173,6 +175,7 @@ const LINES: &[(&str, &str)] = &[
     ("pareas show --pass=", ""),
     ("pareas show --pass row", ""),
     ("pareas show --pass Rows", ""),
+    ("pareas show --pass state", ""),
     ("pareas show --pass place", ""),
     ("pareas show --pass rows names", ""),
     ("pareas show --pass rows --pass rows", ""),
@@ -391,8 +394,8 @@ Shows what a pass makes of a program from standard input, as in `pareas show --p
 Usage: pareas show [OPTIONS]
 
 Options:
-      --pass <PASS>  Pass whose arrays are shown [possible values: tokens, parse, rows, names, types, frames, places, code, all]
-      --html         Print one page of HTML with the arrays of all passes
+      --pass <PASS>  Pass whose arrays are shown [possible values: states, tokens, pairs, parse, rows, names, types, frames, places, code, all]
+      --html         Print one page of HTML with the arrays of all passes but states and pairs
       --workers <N>  Threads that share the work, 1 to 64 [default: 4]
       --chunk <C>    Items that a thread draws at a time, 1 to 65536 [default: 1024]
   -h, --help         Print help
@@ -471,7 +474,7 @@ For more information, try '--help'.
 
 const UNKNOWN_PASS: &str = "\
 error: invalid value 'row' for '--pass <PASS>'
-  [possible values: tokens, parse, rows, names, types, frames, places, code, all]
+  [possible values: states, tokens, pairs, parse, rows, names, types, frames, places, code, all]
 
 For more information, try '--help'.
 ";

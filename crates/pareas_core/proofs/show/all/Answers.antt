@@ -4,15 +4,23 @@ use Rattle.pareas_core.specs.Shown.{Shows, all_shown}
 use Rattle.pareas_core.proofs.Showing.{all_only, code_only, passed_on, rows_only, types_only}
 use Rattle.pareas_core.proofs.show.all.Goals as goal
 
+pub inner_arrays-requires : goal.inner_arrays-requires
+inner_arrays-requires g c =
+    let t = c.in_ok-tokens.ensures.shaped in
+    record { lexed = c.in_ok-tokens.ensures.lexed; parsed = (t.0, t.1.tree) }
+
 pub returns-clause-shown : goal.returns-clause-shown
 returns-clause-shown g c =
     let first = c.in_ok-tokens.ensures in
+    let inner = c.in_ok-inner.ensures in
     let meaning = c.in_ok-analysis.ensures in
     let last = c.in_ok-code.ensures in
     subst (Shows c.args.source.now All) (sym c.in_ok-joined.ensures)
     (all_shown _
     (record {
+      states_are = inner.states;
       tokens_are = first.tokens;
+      pairs_are = inner.pairs;
       parse_are = first.parse;
       rows_are = first.rows;
       names_are = meaning.names;

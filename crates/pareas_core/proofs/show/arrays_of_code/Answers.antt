@@ -53,7 +53,7 @@ laid_out-requires-clause-coded g c κs within =
 pub code_columns-requires : goal.code_columns-requires
 code_columns-requires g c =
     let few = c.in_ok-sizes.ensures.few in
-    let same = ap length c.deref-5.ensures.value in
+    let same = ap length c.deref-6.ensures.value in
     record { few = omega arith }
 
 pub returns-clause-frames : goal.returns-clause-frames
@@ -78,7 +78,7 @@ returns-clause-places g c =
       depths_are = c.deref-2.ensures.value ∙ deep;
       framed = c.in_ok-frames.ensures.ok false t.0 t.1.checked rows (c.deref.ensures.value ∙ deep);
     }) in
-    are_places text c.parts-tokens.result.1 _ _ c.in_ok-place_columns.field-0.items (ast t.0) is.0 rows (c.deref-3.ensures.value ∙ is.1.sizes_are) (c.deref-4.ensures.value ∙ is.1.places_are)
+    are_places text c.parts-tokens.result.1 _ _ _ c.in_ok-place_columns.field-0.items (ast t.0) is.0 rows (c.deref-3.ensures.value ∙ deep) (c.deref-4.ensures.value ∙ is.1.sizes_are) (c.deref-5.ensures.value ∙ is.1.places_are)
     c.in_ok-place_columns.ensures
 
 pub returns-clause-code : goal.returns-clause-code
@@ -94,7 +94,7 @@ returns-clause-code g c =
       depths_are = c.deref-2.ensures.value ∙ deep;
       framed = c.in_ok-frames.ensures.ok false t.0 t.1.checked rows (c.deref.ensures.value ∙ deep);
     }) in
-    are_words text _ c.in_ok-code_columns.field-0.items (ast t.0) is.0 (c.deref-5.ensures.value ∙ is.1.words_are) c.in_ok-code_columns.ensures
+    are_words text _ c.in_ok-code_columns.field-0.items (ast t.0) is.0 (c.deref-6.ensures.value ∙ is.1.words_are) c.in_ok-code_columns.ensures
 
 pub returns-in_err-frames-clause-stopped : goal.returns-in_err-frames-clause-stopped
 returns-in_err-frames-clause-stopped g c =

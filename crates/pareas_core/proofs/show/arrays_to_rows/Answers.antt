@@ -7,6 +7,9 @@ use Rattle.pareas_core.proofs.Chosen.{handed_on}
 use Rattle.pareas_core.proofs.Showing.{are_rows, are_steps, are_tokens, passed_on, stopped}
 use Rattle.pareas_core.proofs.show.arrays_to_rows.Goals as goal
 
+pub returns-clause-tabled : goal.returns-clause-tabled
+returns-clause-tabled g c = c.in_ok-tokens.ensures.tabled
+
 pub returns-clause-tokens : goal.returns-clause-tokens
 returns-clause-tokens g c = are_tokens c.args.source.now c.in_ok-tokens.tokens c.in_ok-token_columns.field-0.items c.in_ok-tokens.ensures.lexed c.in_ok-token_columns.ensures
 

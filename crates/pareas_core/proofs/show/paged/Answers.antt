@@ -1,9 +1,14 @@
 use Rattle.std.proofs.Common.{◌≡◌, ◌∙◌, ◌++◌, ℕ, List, ap, flat_map, length, sym, subst, arith}
 use Rattle.front_end.specs.Laws.Counting.{tree_few}
+use Rattle.grammar_file.specs.SyntaxPlace.{ended}
+use Rattle.par_lexer.specs.Table.{lexer}
 use Rattle.pass_page.specs.Page.{closing, opening, source_box, table_box, tree_box}
+use Rattle.pass_tables.specs.Tables.{pair_columns, state_columns}
+use Rattle.source_meaning.specs.Grammar.{grammar}
+use Rattle.verdict.specs.Verdict.{word}
 use Rattle.pareas_core.specs.Responses.{arrays_of}
-use Rattle.pareas_core.specs.Shown.{IsPage, named_arrays, page_shown}
-use Rattle.pareas_core.proofs.Showing.{code_only, paged_of, passed_on, rows_only, shaped_as, types_only}
+use Rattle.pareas_core.specs.Shown.{IsPage, named_arrays, page_shown, pair_arrays, state_arrays}
+use Rattle.pareas_core.proofs.Showing.{code_only, lexed_as, paged_of, passed_on, rows_only, shaped_as, types_only}
 use Rattle.pareas_core.proofs.show.paged.Goals as goal
 
 pub drawn-requires : goal.drawn-requires
@@ -19,12 +24,17 @@ returns-clause-paged g c =
     let t = first.shaped in
     let meaning = c.in_ok-analysis.ensures in
     let last = c.in_ok-code.ensures in
-    let all = arrays_of (record { syntax = c.in_ok-tokens.syntax; meaning = c.in_ok-analysis.meaning; code = c.in_ok-code.code }) in
+    let table = first.tabled in
+    let states = state_columns lexer text in
+    let pairs = pair_columns grammar table.0 (ended grammar (word text)) in
+    let all = arrays_of states pairs (record { syntax = c.in_ok-tokens.syntax; meaning = c.in_ok-analysis.meaning; code = c.in_ok-code.code }) in
     let drawn : c.in_ok-page.page.items ≡ _ = c.in_ok-page.ensures ∙ (λ i. opening ++ source_box text (first.lexed.are i) ++ tree_box (t.1.are i)) in
-    subst (IsPage text) (sym (c.in_ok-push_tables.ensures ∙ ap (λ (l : List ℕ). l ++ flat_map (λ t. table_box t.0 t.1) (named_arrays all) ++ closing) drawn))
+    subst (IsPage text) (sym (c.in_ok-push_tables.ensures states pairs ∙ ap (λ (l : List ℕ). l ++ flat_map (λ t. table_box t.0 t.1) (named_arrays all) ++ closing) drawn))
     (page_shown t.0 all (shaped_as text c.in_ok-tokens.tokens c.in_ok-tokens.rows t.0 first.lexed t.1)
     (record {
+      states_are = state_arrays first.lexed.fits;
       tokens_are = first.tokens;
+      pairs_are = pair_arrays t.0 table.0 (record { lexed = lexed_as text c.in_ok-tokens.tokens first.lexed; tree = t.1.tree }) table.1;
       parse_are = first.parse;
       rows_are = first.rows;
       names_are = meaning.names;

@@ -1,9 +1,13 @@
+use Rattle.llp_tables.specs.EntryTable.{entry_of}
 use Rattle.source_meaning.specs.Grammar.{Tree, Prog}
 use Rattle.pareas_core.specs.Responses.{Stops}
 use Rattle.pareas_core.specs.Shown.{IsParsed}
 use Rattle.pareas_core.proofs.Chosen.{handed_on}
 use Rattle.pareas_core.proofs.Showing.{passed_on, stopped}
 use Rattle.pareas_core.proofs.show.parse_of.Goals as goal
+
+pub returns-clause-tabled : goal.returns-clause-tabled
+returns-clause-tabled g c = (entry_of c.in_ok-tables.tables, c.in_ok-tables.ensures.tables.tables)
 
 pub returns-in_err-tokens-clause-stopped : goal.returns-in_err-tokens-clause-stopped
 returns-in_err-tokens-clause-stopped g c =

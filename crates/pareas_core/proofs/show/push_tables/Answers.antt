@@ -7,7 +7,7 @@ use Rattle.pareas_core.proofs.Joining.{eight_parts, further}
 use Rattle.pareas_core.proofs.show.push_tables.Goals as goal
 
 pub returns : goal.returns
-returns c =
+returns c = λ states pairs.
     let old = c.args.page.now.items in
     let arrays = c.args.arrays.now in
     let box1 = table_box (codes "tokens") arrays.syntax.tokens.items in

@@ -1,18 +1,38 @@
 use Rattle.std.proofs.Common.{IfErr, IfOk, sym, subst}
-use Rattle.command_line.specs.declared.command.Pass.TheVariants.{Tokens, Parse, Rows, Names, Types, Frames, Places, Code}
+use Rattle.command_line.specs.declared.command.Pass.TheVariants.{States, Tokens, Pairs, Parse, Rows, Names, Types, Frames, Places, Code}
 use Rattle.pareas_core.specs.Responses.{IsUnshown}
 use Rattle.pareas_core.specs.Shown.{Shows}
 use Rattle.pareas_core.proofs.show.shown.Goals as goal
 
+pub returns-in-States-clause-shown : goal.returns-in-States-clause-shown
+returns-in-States-clause-shown g c =
+    let text = c.args.source.now in
+    subst (λ p. IfOk c.tabled.result (λ table. Shows text p table.items)) (sym c.in-States.is) (c.tabled.ensures.shown text States c.state_arrays.ensures.shown)
+
+pub returns-in-States-clause-stopped : goal.returns-in-States-clause-stopped
+returns-in-States-clause-stopped g c =
+    let text = c.args.source.now in
+    subst (λ p. IfErr c.tabled.result (IsUnshown text p)) (sym c.in-States.is) (c.tabled.ensures.stopped text States (λ e. cc) c.state_arrays.ensures.stopped)
+
 pub returns-in-Tokens-clause-shown : goal.returns-in-Tokens-clause-shown
 returns-in-Tokens-clause-shown g c =
     let text = c.args.source.now in
-    subst (λ p. IfOk c.tabled.result (λ table. Shows text p table.items)) (sym c.in-Tokens.is) (c.tabled.ensures.shown text Tokens c.token_arrays.ensures.shown)
+    subst (λ p. IfOk c.tabled-in-Tokens.result (λ table. Shows text p table.items)) (sym c.in-Tokens.is) (c.tabled-in-Tokens.ensures.shown text Tokens c.token_arrays.ensures.shown)
 
 pub returns-in-Tokens-clause-stopped : goal.returns-in-Tokens-clause-stopped
 returns-in-Tokens-clause-stopped g c =
     let text = c.args.source.now in
-    subst (λ p. IfErr c.tabled.result (IsUnshown text p)) (sym c.in-Tokens.is) (c.tabled.ensures.stopped text Tokens (λ e. cc) c.token_arrays.ensures.stopped)
+    subst (λ p. IfErr c.tabled-in-Tokens.result (IsUnshown text p)) (sym c.in-Tokens.is) (c.tabled-in-Tokens.ensures.stopped text Tokens (λ e. cc) c.token_arrays.ensures.stopped)
+
+pub returns-in-Pairs-clause-shown : goal.returns-in-Pairs-clause-shown
+returns-in-Pairs-clause-shown g c =
+    let text = c.args.source.now in
+    subst (λ p. IfOk c.tabled-in-Pairs.result (λ table. Shows text p table.items)) (sym c.in-Pairs.is) (c.tabled-in-Pairs.ensures.shown text Pairs c.pair_arrays.ensures.shown)
+
+pub returns-in-Pairs-clause-stopped : goal.returns-in-Pairs-clause-stopped
+returns-in-Pairs-clause-stopped g c =
+    let text = c.args.source.now in
+    subst (λ p. IfErr c.tabled-in-Pairs.result (IsUnshown text p)) (sym c.in-Pairs.is) (c.tabled-in-Pairs.ensures.stopped text Pairs (λ e. cc) c.pair_arrays.ensures.stopped)
 
 pub returns-in-Parse-clause-shown : goal.returns-in-Parse-clause-shown
 returns-in-Parse-clause-shown g c =

@@ -10,4 +10,5 @@ returns c =
     let count = c.in_ok-numbers_of_rows.ensures ∙ ap (places (codes "row")) c.len.ensures in
     let kinds = c.in_ok-kinds.ensures ∙ ap (texts (codes "kind")) (ap (map kind_text) c.kinds.ensures ∙ map-map kind_text (λ (r : Row). r.kind) c.args.rows.now) in
     let siblings = c.in_ok-places.ensures ∙ ap (numbers (codes "place")) c.places-2.ensures in
-    c.in_ok-vec.ensures.items ∙ (λ i. count i ∷ kinds i ∷ c.in_ok-parents.ensures i ∷ c.in_ok-own_tokens.ensures i ∷ siblings i ∷ c.in_ok-own_texts.ensures i ∷ [])
+    let firsts = c.in_ok-firsts.ensures ∙ ap (numbers (codes "first")) c.lows.ensures in
+    c.in_ok-vec.ensures.items ∙ (λ i. count i ∷ kinds i ∷ c.in_ok-parents.ensures i ∷ c.in_ok-own_tokens.ensures i ∷ siblings i ∷ firsts i ∷ c.in_ok-own_texts.ensures i ∷ [])
