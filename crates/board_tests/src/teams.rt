@@ -23,7 +23,7 @@ fn squares<R: Threads + Sync, G: Gate>(
     let crew = at(rt, alloc, (workers, 1), gate)?;
     let (board, mut seat) = ClaimBoard::new(alloc, chunks, workers)?;
     let square = |c: u64| -> Result<u64, AllocError> { Ok(c.wrapping_mul(c)) };
-    let pairs = make_each(&crew, &board, &mut seat, workers, chunks, &square)?;
+    let pairs = make_each(&crew, &board, &mut seat, workers, &square)?;
     let values = in_order(alloc, chunks as usize, pairs)?;
     Ok((values, board.close(seat)))
 }

@@ -6,9 +6,9 @@ use Rattle.chunk_seats.specs.Chunks.{chunk_of, chunk_count}
 use Rattle.word_monoid.specs.Monoid.{Ops}
 use Rattle.word_monoid.specs.Folds.{fold_of, prefix_of, prefixes, prefixes_from}
 use Rattle.word_monoid.specs.Laws.Folds.{range-append}
-use Rattle.scan_lookback.specs.Cuts.{Lifts, Scans, running}
+use Rattle.scan_lookback.specs.Cuts.{running}
 use Rattle.chunk_seats.specs.Laws.Counted.{chunks_all}
-use Rattle.scan_lookback.specs.Laws.Cutting.{fold_on, length-chunk, lifts_chunk, runs_from}
+use Rattle.scan_lookback.specs.Laws.Cutting.{fold_on, length-chunk, runs_from}
 
 pub next_chunk : (c size : ℕ) → c * size + size ≡ (c + 1) * size
 next_chunk c size = sym (suc-mul c size) ∙ ap (λ (k : ℕ). k * size) (sym (add-one c))
@@ -52,7 +52,3 @@ module _ {I : Type 0} (ops : Ops I) (size : ℕ) (items : List I) where
       added ∙ (ap (λ (l : List I). l ++ sum ∷ []) (so_far ∙ ap (prefixes_from ops items 0) front)
       ∙ (ap (λ (y : I). prefixes_from ops items 0 n ++ y ∷ []) end
       ∙ (sym (map-range_with_len_more (prefix_of ops items) 0 n n (omega arith)) ∙ ap (prefixes_from ops items 0) (add-one n))))
-
--- what is made of a chunk's items
-pub chunk_lifts : {T I : Type 0} (ops : Ops I) (post : T → I → Type 0) (size : ℕ) (items : List T) (lifted sums : List I) → Scans ops post size items lifted sums → (c : ℕ) (part : List T) → part ≡ chunk_of size items c → Lifts post part (chunk_of size lifted c)
-chunk_lifts {T} ops post size items lifted sums scans c part is = subst (λ (l : List T). Lifts post l (chunk_of size lifted c)) (sym is) (lifts_chunk post items lifted scans.lifts size c)

@@ -11,6 +11,10 @@ use Rattle.scan_lookback.specs.Cuts.{Scans}
 use Rattle.scan_lookback.specs.Laws.Cutting.{count_is}
 use Rattle.scan_lookback.proofs.Working.{StartsAt}
 
+-- as many chunks as there are sums
+pub count_named : {T I : Type 0} (ops : Ops I) (post : T → I → Type 0) (size : ℕ) (items : List T) (lifted sums : List I) → Scans ops post size items lifted sums → (count : ℕ) → count ≡ chunk_count size (length items) → count ≡ length sums
+count_named ops post size items lifted sums scans count is = is ∙ (ap (chunk_count size) (sym scans.lifts.as_many) ∙ sym (count_is ops post size items lifted sums scans))
+
 module _ {T I : Type 0} (ops : Ops I) (laws : IsMonoid ops) (post : T → I → Type 0) (size : ℕ) (items : List T) (lifted sums : List I) (scans : Scans ops post size items lifted sums) where
   pub length-out : (out : List I) → out ≡ prefixes_from ops lifted 0 (length lifted) → length out ≡ length items
   length-out out is = ap length is ∙ (length-map-range_with_len (prefix_of ops lifted) 0 (length lifted) ∙ scans.lifts.as_many)
@@ -30,9 +34,6 @@ module _ {T I : Type 0} (ops : Ops I) (laws : IsMonoid ops) (post : T → I → 
         all_at (IsItem ops) lifted k y scans.accepted last,
         ap (λ (z : I). ops.join z y) same ∙ (sym (prefix_next ops lifted k y last) ∙ (ap (prefix_of ops lifted) n ∙ all_of)),
       )
-
-  pub count_named : (count : ℕ) → count ≡ chunk_count size (length items) → count ≡ length sums
-  count_named count is = is ∙ (ap (chunk_count size) (sym scans.lifts.as_many) ∙ sym (count_is ops post size items lifted sums scans))
 
   pub whole : (out all : List I) (last : I) → out ≡ prefixes_from ops lifted 0 (length lifted) → last ≡ fold_of ops lifted → all ≡ out ++ last ∷ [] → all ≡ prefixes ops lifted
   whole out all last is total added =

@@ -10,12 +10,10 @@ use Rattle.chunk_seats.specs.declared.views.ClaimView.{ClaimView}
 use Rattle.chunk_seats.specs.Claims.{claiming, finishing}
 use Rattle.chunk_seats.specs.Laws.Totals.{times_snoc, one_same, one_other, one_le}
 use Rattle.scan_lookback.specs.declared.views.LookView.{LookView}
-use Rattle.std.specs.Prelude.{All, IfOk}
+use Rattle.std.specs.Prelude.{All}
 use Rattle.std.proofs.lemmas.List.Elements.{All-push}
-use Rattle.std.proofs.Common.{Vec, Global}
 use Rattle.word_monoid.specs.Monoid.{Ops}
 use Rattle.word_monoid.specs.Folds.{prefix_of}
-use Rattle.scan_lookback.specs.Cuts.{chunk_prefixes}
 use Rattle.std.specs.Prelude.{flat_map}
 use Rattle.std.proofs.lemmas.List.{append-nil}
 use Rattle.std.proofs.lemmas.List.Elements.{All-nil}
@@ -88,15 +86,6 @@ back_more u v w c loads so_far is one = record {
   each = All-push (λ (p : Back). IsLookBack p.0 p.1) so_far.backs (c, loads) so_far.each one;
 }
 
--- an answer has its chunk's prefixes
-abbrev pub Answered : {T : Type 0} → Ops T → List T → ℕ → ℕ × Vec T Global → Type 0
-Answered ops items size p = p.1.items ≡ chunk_prefixes ops size items p.0
-
 -- a start is the join of the sums before its chunk
 abbrev pub StartsAt : {T : Type 0} → Ops T → List T → ℕ × T → Type 0
 StartsAt ops sums p = p.1 ≡ prefix_of ops sums p.0
-
--- what follows of a value follows of the answer that has it
-pub if_ok : {T E : Type 0} (P Q : T → Type 0) (r : Result T E) → IfOk r P → ((x : T) → P x → Q x) → IfOk r Q
-if_ok P Q (Ok x) p so = so x p
-if_ok P Q (Err e) p so = tt

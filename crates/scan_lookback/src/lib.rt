@@ -5,15 +5,15 @@
 mod alone;
 mod back;
 mod board;
+mod boards;
 mod chunk;
 mod fill;
 mod look;
-mod made;
 mod place;
 mod run;
+mod scanned;
 mod single_pass;
 mod span;
-mod starts;
 mod steps;
 mod unseen;
 mod views;
@@ -22,8 +22,10 @@ mod work;
 mod worked;
 
 pub use board::{ScanBoard, Seat};
+pub use boards::{Boards, Team};
 pub use look::Look;
 pub use place::{assemble, by_number};
+pub use scanned::Scanned;
 pub use single_pass::{scan, scan_lifted};
 pub use steps::Steps;
 pub use unseen::Unseen;

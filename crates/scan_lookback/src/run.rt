@@ -1,60 +1,26 @@
 //! The workers of a scan.
-ghost use Rattle.std.specs.Prelude.{◌≡◌, ◌+◌, ◌<◌, ◌≤◌, ◌^◌, length, IfOk, All};
+ghost use Rattle.std.specs.Prelude.{◌≡◌, ◌+◌, ◌<◌, ◌≤◌, ◌^◌, length, IfOk};
 ghost use Rattle.chunk_seats.specs.Claims.{fresh};
 ghost use Rattle.scan_lookback.specs.Views.{blank};
-ghost use Rattle.scan_lookback.specs.Cuts.{Scans};
+ghost use Rattle.scan_lookback.specs.Cuts.{IsScan};
 ghost use Rattle.scan_lookback.specs.Made.{Makes};
 
-use crate::board::{ScanBoard, Seat};
-use crate::fill::blank_list;
-use crate::made::{Begun, Hands, Made};
+use crate::boards::{Boards, Made, Team};
+use crate::fill::BlankList;
+use crate::scanned::Scanned;
 use crate::views::Chunks;
-use chunk_seats::{ClaimBoard, Crew, Gate, Plan};
-use std::alloc::{AllocError, Global};
+use chunk_seats::{Crew, Gate};
+use std::alloc::AllocError;
 use std::thread::{Threads, join};
 use word_monoid::WordMonoid;
 use worker_teams::Task;
 
-// Two groups of workers are one.
-fn merge<'a, M: WordMonoid, N: Chunks<M::Item>>(
-    board: &ScanBoard<'a, M, N>,
-    claims: &ClaimBoard,
-    rest: u32,
-    half: u32,
-    one: Made<M::Item>,
-    two: Made<M::Item>,
-) -> Result<Made<M::Item>, AllocError>
-    requires one { Makes (M.ops board.now.monoid) N.sums board.now.board claims.now.board rest one }
-    requires two { Makes (M.ops board.now.monoid) N.sums board.now.board claims.now.board half two }
-    ensures { IfOk result (λ r. Makes (M.ops board.now.monoid) N.sums board.now.board claims.now.board (rest + half) r) }
-{
-    // The contract alone speaks of these.
-    let _ = (rest, half);
-    let Made {
-        mut seat,
-        mut mine,
-        mut starts,
-    } = one;
-    let Made {
-        seat: other,
-        mine: theirs,
-        starts: mut more,
-    } = two;
-    board.join(&mut seat, other);
-    claims.join(&mut mine, theirs);
-    starts.append(&mut more)?;
-    Ok(Made { seat, mine, starts })
-}
-
 // The workers of a scan: each draws chunks, publishes their sums and looks back.
 #[derive(Drop)]
-struct Scanning<'a, 'b, C, T, M: WordMonoid, N: Chunks<M::Item>, F> {
-    crew: &'a C,
-    plan: &'a Plan,
-    board: &'a ScanBoard<'b, M, N>,
-    claims: &'a ClaimBoard,
-    items: &'a [T],
-    lift: &'a F,
+pub(crate) struct Scanning<'a, 'b, C, T, M: WordMonoid, N: Chunks<M::Item>, F> {
+    pub crew: &'a C,
+    pub boards: &'a Boards<'b, M, N>,
+    pub scanned: &'a Scanned<'b, T, M, F>,
 }
 
 impl<
@@ -66,47 +32,38 @@ impl<
     N: Chunks<M::Item> + Send + Sync,
     F: Fn(T) -> M::Item + Sync,
 > Task for Scanning<'a, 'b, C, T, M, N, F> {
-    type Seats = Hands;
+    type Seats = Team;
 
     type Made = Result<Made<M::Item>, AllocError>;
 
-    ghost use Rattle.std.specs.Prelude.{◌≡◌, All, IfOk};
+    ghost use Rattle.std.specs.Prelude.{◌≡◌, IfOk};
     ghost use Rattle.chunk_seats.specs.Claims.{fresh};
     ghost use Rattle.scan_lookback.specs.Views.{blank};
-    ghost use Rattle.scan_lookback.specs.Cuts.{Scans};
+    ghost use Rattle.scan_lookback.specs.Cuts.{IsScan};
     ghost use Rattle.scan_lookback.specs.Made.{Makes};
 
-    ghost begins = { λ task workers hands.
-        ((hands.seat.board ≡ task.board.now.board) × (hands.mine.board ≡ task.claims.now.board) × (task.claims.now.chunks ≡ task.board.now.chunks))
-        × ((hands.seat.view ≡ blank workers) × (hands.mine.view ≡ fresh workers))
-        × All (F.pre task.lift.now) task.items.now
-        × Scans (M.ops task.board.now.monoid) (F.post task.lift.now) task.plan.now.chunk task.items.now N.items N.sums };
+    ghost begins = { λ task workers team.
+        ((team.seat.board ≡ task.boards.now.status.board) × (team.mine.board ≡ task.boards.now.claims.board) × (task.boards.now.claims.chunks ≡ task.boards.now.status.chunks))
+        × ((team.seat.view ≡ blank workers) × (team.mine.view ≡ fresh workers))
+        × IsScan M.ops F.pre F.post N.items N.sums task.scanned.now };
 
-    ghost ends = { λ task workers made. IfOk made (Makes (M.ops task.board.now.monoid) N.sums task.board.now.board task.claims.now.board workers) };
+    ghost ends = { λ task workers made. IfOk made (Makes (M.ops task.boards.now.status.monoid) N.sums task.boards.now.status.board task.boards.now.claims.board workers) };
 
-    fn split(&self, hands: &mut Hands, rest: u32, half: u32) -> Hands {
+    fn split(&self, team: &mut Team, rest: u32, half: u32) -> Team {
         // The contract alone speaks of it.
         let _ = rest;
-        Hands {
-            seat: self.board.split(&mut hands.seat, half),
-            mine: self.claims.split(&mut hands.mine, half),
+        Team {
+            mine: self.boards.claims.split(&mut team.mine, half),
+            seat: self.boards.status.split(&mut team.seat, half),
         }
     }
 
-    fn work(&self, hands: Hands, worker: u32) -> Result<Made<M::Item>, AllocError> {
-        let Hands { mut seat, mut mine } = hands;
+    fn work(&self, mut team: Team, worker: u32) -> Result<Made<M::Item>, AllocError> {
         let tell = |chunk: Option<u64>| self.crew.gate().after_claim(worker, chunk);
-        let starts = self.board.work_starts(
-            self.crew.alloc(),
-            &mut seat,
-            self.claims,
-            &mut mine,
-            self.plan,
-            &tell,
-            self.items,
-            self.lift,
-        )?;
-        Ok(Made { seat, mine, starts })
+        let starts = self
+            .boards
+            .work(self.crew.alloc(), &mut team, self.scanned, &tell)?;
+        Ok(Made { team, starts })
     }
 
     fn merge(
@@ -116,36 +73,34 @@ impl<
         one: Result<Made<M::Item>, AllocError>,
         two: Result<Made<M::Item>, AllocError>,
     ) -> Result<Made<M::Item>, AllocError> {
-        merge(self.board, self.claims, rest, half, one?, two?)
+        self.boards.merge(rest, half, one?, two?)
     }
 }
 
-// All workers of a team, two or more, of which the first makes a list of that many items, before it works, while the others work.
+// All workers of a team, two or more, of which the first makes a list, before it works, while the others work.
 fn begin_team<R: Threads + Sync, J: Task + Send + Sync, I: Copy + Send>(
     rt: &R,
     task: &J,
     mut seats: J::Seats,
     workers: u32,
-    alloc: Global,
-    item: I,
-    len: usize,
+    answer: BlankList<I>,
 ) -> (J::Made, Result<Vec<I>, AllocError>)
     requires workers { (2 ≤ workers) × (workers ≤ 64) }
     requires begins { J.begins task.now workers seats }
-    requires len { len < 2 ^ 62 }
+    requires len { answer.len < 2 ^ 62 }
     ensures made { J.ends task.now workers result.0 }
-    ensures list { IfOk result.1 (λ v. length v.items ≡ len) }
+    ensures list { IfOk result.1 (λ v. length v.items ≡ answer.len) }
 {
     let rest = workers - 1;
     let others = task.split(&mut seats, 1, rest);
     let ((one, list), two) = join(
         rt,
         move || -> (J::Made, Result<Vec<I>, AllocError>)
-            requires { (len < 2 ^ 62) × J.begins task.now 1 seats }
+            requires { (answer.len < 2 ^ 62) × J.begins task.now 1 seats }
             ensures made { J.ends task.entry.now 1 result.0 }
-            ensures list { IfOk result.1 (λ v. length v.items ≡ len) }
+            ensures list { IfOk result.1 (λ v. length v.items ≡ answer.len) }
         {
-            let list = blank_list(alloc, item, len);
+            let list = answer.make();
             (task.work(seats, 0), list)
         },
         move || -> J::Made
@@ -156,55 +111,41 @@ fn begin_team<R: Threads + Sync, J: Task + Send + Sync, I: Copy + Send>(
     (task.merge(1, rest, one, two), list)
 }
 
-// All workers, two or more, and a list for the answer.
-pub(crate) fn begin<
+// What all workers leave, and a list for the answer.
+#[derive(Drop)]
+pub(crate) struct Begun<I: Copy> {
+    pub made: Made<I>,
+    pub list: Vec<I>,
+}
+
+impl<
     'a,
+    'b,
     C: Crew,
     T: Copy + Sync,
     M: WordMonoid<Item: Send + Sync> + Sync,
     N: Chunks<M::Item> + Send + Sync,
     F: Fn(T) -> M::Item + Sync,
->(
-    crew: &C,
-    plan: &Plan,
-    board: &ScanBoard<'a, M, N>,
-    claims: &ClaimBoard,
-    seat: Seat,
-    mine: chunk_seats::Seat,
-    workers: u32,
-    items: &[T],
-    lift: &F,
-) -> Result<Begun<M::Item>, AllocError>
-    requires boards { (seat.board ≡ board.now.board) × (mine.board ≡ claims.now.board) × (claims.now.chunks ≡ board.now.chunks) }
-    requires new { (seat.view ≡ blank workers) × (mine.view ≡ fresh workers) }
-    requires workers { (2 ≤ workers) × (workers ≤ 64) }
-    requires callable { All (F.pre lift.now) items.now }
-    requires len { length items.now < 2 ^ 62 }
-    requires scans { Scans (M.ops board.now.monoid) (F.post lift.now) plan.now.chunk items.now N.items N.sums }
-    ensures made { IfOk result (λ r. Makes (M.ops board.now.monoid) N.sums board.now.board claims.now.board workers r.made) }
-    ensures list { IfOk result (λ r. length r.list.items ≡ length items.now) }
-{
-    let scanning = Scanning {
-        crew,
-        plan,
-        board,
-        claims,
-        items,
-        lift,
-    };
-    let hands = Hands { seat, mine };
-    let unit = board.monoid().unit();
-    let (made, list) = begin_team(
-        crew.runtime(),
-        &scanning,
-        hands,
-        workers,
-        crew.alloc(),
-        unit,
-        items.len(),
-    );
-    Ok(Begun {
-        made: made?,
-        list: list?,
-    })
+> Scanning<'a, 'b, C, T, M, N, F> {
+    // All workers, two or more, and a list for the answer.
+    pub(crate) fn begin(&self, team: Team, workers: u32) -> Result<Begun<M::Item>, AllocError>
+        requires boards { (team.seat.board ≡ self.now.boards.now.status.board) × (team.mine.board ≡ self.now.boards.now.claims.board)
+            × (self.now.boards.now.claims.chunks ≡ self.now.boards.now.status.chunks) }
+        requires new { (team.seat.view ≡ blank workers) × (team.mine.view ≡ fresh workers) }
+        requires workers { (2 ≤ workers) × (workers ≤ 64) }
+        requires scan { IsScan M.ops F.pre F.post N.items N.sums self.now.scanned.now }
+        ensures made { IfOk result (λ r. Makes (M.ops self.now.boards.now.status.monoid) N.sums self.now.boards.now.status.board self.now.boards.now.claims.board workers r.made) }
+        ensures list { IfOk result (λ r. length r.list.items ≡ length self.now.scanned.now.items.now) }
+    {
+        let answer = BlankList {
+            alloc: self.crew.alloc(),
+            item: self.scanned.monoid.unit(),
+            len: self.scanned.items.len(),
+        };
+        let (made, list) = begin_team(self.crew.runtime(), self, team, workers, answer);
+        Ok(Begun {
+            made: made?,
+            list: list?,
+        })
+    }
 }

@@ -1,23 +1,21 @@
 //! The scan.
-ghost use Rattle.std.specs.Prelude.{◌≡◌, ◌<◌, ◌≤◌, ◌^◌, max, map, length, IfOk, All};
+ghost use Rattle.std.specs.Prelude.{◌≡◌, ◌*◌, ◌<◌, ◌≤◌, ◌^◌, max, map, length, IfOk, All};
 ghost use Rattle.chunk_seats.specs.Chunks.{chunk_count};
 ghost use Rattle.word_monoid.specs.Monoid.{IsItem, IsMonoid};
-ghost use Rattle.word_monoid.specs.Folds.{fold_of, prefixes, prefixes_from};
+ghost use Rattle.word_monoid.specs.Folds.{prefixes, prefixes_from};
 ghost use Rattle.scan_lookback.specs.Named.{Names};
-ghost use Rattle.scan_lookback.specs.Cuts.{Scans};
+ghost use Rattle.scan_lookback.specs.Cuts.{IsScan};
 
-use crate::alone::scan_alone;
 use crate::board::ScanBoard;
-use crate::fill::fill;
-use crate::made::{Begun, Made};
+use crate::boards::{Boards, Team};
 use crate::place::in_order;
-use crate::run::begin;
+use crate::run::{Begun, Scanning};
+use crate::scanned::Scanned;
 use crate::views::{Chunks, Lift, Lifted};
-use chunk_seats::{ClaimBoard, Crew, Plan};
+use chunk_seats::{ClaimBoard, Crew};
 use std::alloc::AllocError;
 use std::marker::Brand;
 use word_monoid::WordMonoid;
-use worker_teams::count_chunks;
 
 // The laws, for a caller that starts threads.
 fn know_laws<M: WordMonoid>(monoid: &M)
@@ -25,29 +23,6 @@ fn know_laws<M: WordMonoid>(monoid: &M)
 {
     // The contract alone speaks of it.
     let _ = monoid;
-}
-
-// The join of all items, where the joins before each are known.
-fn total<T: Copy, M: WordMonoid, N: Chunks<M::Item>, F: Fn(T) -> M::Item>(
-    monoid: &M,
-    items: &[T],
-    lift: &F,
-    size: u32,
-    out: &[M::Item],
-) -> M::Item
-    requires callable { All (F.pre lift.now) items.now }
-    requires scans { Scans (M.ops monoid.now) (F.post lift.now) size items.now N.items N.sums }
-    requires out { out.now ≡ prefixes_from (M.ops monoid.now) N.items 0 (length N.items) }
-    ensures { result ≡ fold_of (M.ops monoid.now) N.items }
-{
-    // The contract alone speaks of it.
-    let _ = size;
-    let len = items.len();
-    if len == 0 {
-        return monoid.unit();
-    }
-    let last = items[len - 1];
-    monoid.join(out[len - 1], lift(last))
 }
 
 // How many chunks of the list each worker fills.
@@ -59,118 +34,106 @@ fn chunks_each(count: usize, workers: u32) -> usize
     count.div_ceil(workers as usize).max(1)
 }
 
-// The joins before each item, and the join of all, where the joins before the chunks are known. Each worker fills a part of the list.
-fn fill_list<
-    C: Crew,
-    T: Copy + Sync,
-    M: WordMonoid<Item: Send + Sync> + Sync,
-    F: Fn(T) -> M::Item + Sync,
-    N: Chunks<M::Item> + Send + Sync,
->(
-    crew: &C,
-    plan: &Plan,
-    monoid: &M,
-    items: &[T],
-    lift: &F,
-    count: usize,
-    workers: u32,
-    starts: &[M::Item],
-    list: Vec<M::Item>,
-) -> Result<Vec<M::Item>, AllocError>
-    requires len { length items.now < 2 ^ 62 }
-    requires count { count ≡ chunk_count plan.now.chunk (length items.now) }
-    requires workers { 0 < workers }
-    requires callable { All (F.pre lift.now) items.now }
-    requires scans { Scans (M.ops monoid.now) (F.post lift.now) plan.now.chunk items.now N.items N.sums }
-    requires starts { starts.now ≡ prefixes_from (M.ops monoid.now) N.sums 0 (length N.sums) }
-    requires wide { length list.items ≡ length items.now }
-    ensures { IfOk result (λ v. v.items ≡ prefixes (M.ops monoid.now) N.items) }
-{
-    know_laws(monoid);
-    let per = chunks_each(count, workers);
-    let mut out = list;
-    fill::<T, M, N, F, C::Runtime>(
-        crew.runtime(),
-        monoid,
-        items,
-        lift,
-        plan.chunk,
-        per,
-        starts,
-        out.as_mut_slice(),
-    );
-    let last = total::<T, M, N, F>(monoid, items, lift, plan.chunk, out.as_slice());
-    out.push(last)?;
-    Ok(out)
+// The joins before the chunks, and a list for those before the items.
+#[derive(Drop)]
+struct Started<I: Copy> {
+    starts: Vec<I>,
+    list: Vec<I>,
 }
 
-// The scan by two workers or more, where the run's lists have names.
-fn scan_together<
-    C: Crew,
+impl<
+    'a,
     T: Copy + Sync,
     M: WordMonoid<Item: Send + Sync> + Sync,
     F: Fn(T) -> M::Item + Sync,
-    N: Chunks<M::Item> + Send + Sync,
->(
-    crew: &C,
-    plan: &Plan,
-    monoid: &M,
-    items: &[T],
-    lift: &F,
-    count: usize,
-    workers: u32,
-) -> Result<Vec<M::Item>, AllocError>
-    requires len { length items.now < 2 ^ 62 }
-    requires count { (count ≡ chunk_count plan.now.chunk (length items.now)) × (count < 2 ^ 62) }
-    requires workers { (2 ≤ workers) × (workers ≤ 64) }
-    requires callable { All (F.pre lift.now) items.now }
-    requires scans { Scans (M.ops monoid.now) (F.post lift.now) plan.now.chunk items.now N.items N.sums }
-    requires names { Names (M.ops monoid.now) N.sums N.sum_codes N.prefix_codes }
-    ensures { IfOk result (λ v. v.items ≡ prefixes (M.ops monoid.now) N.items) }
-{
-    know_laws(monoid);
-    let (claims, mine) = ClaimBoard::new(crew.alloc(), count as u64, workers)?;
-    let (board, seat) = ScanBoard::<M, N>::new(crew.alloc(), monoid, count as u64, workers)?;
-    let Begun { made, list } = begin(
-        crew, plan, &board, &claims, seat, mine, workers, items, lift,
-    )?;
-    let Made { seat, mine, starts } = made;
-    board.close(seat);
-    claims.close(mine);
-    let starts = in_order(crew.alloc(), count, starts)?;
-    fill_list::<C, T, M, F, N>(
-        crew,
-        plan,
-        monoid,
-        items,
-        lift,
-        count,
-        workers,
-        starts.as_slice(),
-        list,
-    )
-}
+> Scanned<'a, T, M, F> {
+    // The joins before the chunks, by two workers or more.
+    fn find_starts<C: Crew, N: Chunks<M::Item> + Send + Sync>(
+        &self,
+        crew: &C,
+        count: usize,
+        workers: u32,
+    ) -> Result<Started<M::Item>, AllocError>
+        requires scan { IsScan M.ops F.pre F.post N.items N.sums self.now }
+        requires names { Names (M.ops self.now.monoid.now) N.sums N.sum_codes N.prefix_codes }
+        requires count { (count ≡ length N.sums) × (count < 2 ^ 62) }
+        requires workers { (2 ≤ workers) × (workers ≤ 64) }
+        ensures starts { IfOk result (λ r. r.starts.items ≡ prefixes_from (M.ops self.now.monoid.now) N.sums 0 (length N.sums)) }
+        ensures list { IfOk result (λ r. length r.list.items ≡ length self.now.items.now) }
+    {
+        let alloc = crew.alloc();
+        let (claims, mine) = ClaimBoard::new(alloc, count as u64, workers)?;
+        let (status, seat) = ScanBoard::<M, N>::new(alloc, self.monoid, count as u64, workers)?;
+        let boards = Boards { claims, status };
+        let scanning = Scanning {
+            crew,
+            boards: &boards,
+            scanned: self,
+        };
+        let Begun { made, list } = scanning.begin(Team { mine, seat }, workers)?;
+        let starts = in_order(alloc, count, boards.close(made))?;
+        Ok(Started { starts, list })
+    }
 
-// The scan, where the run's lists have names.
-fn scan_named<
-    C: Crew,
-    T: Copy + Sync,
-    M: WordMonoid<Item: Send + Sync> + Sync,
-    F: Fn(T) -> M::Item + Sync,
-    N: Chunks<M::Item> + Send + Sync,
->(crew: &C, plan: &Plan, monoid: &M, items: &[T], lift: &F) -> Result<Vec<M::Item>, AllocError>
-    requires len { length items.now < 2 ^ 62 }
-    requires callable { All (F.pre lift.now) items.now }
-    requires scans { Scans (M.ops monoid.now) (F.post lift.now) plan.now.chunk items.now N.items N.sums }
-    requires names { Names (M.ops monoid.now) N.sums N.sum_codes N.prefix_codes }
-    ensures { IfOk result (λ v. v.items ≡ prefixes (M.ops monoid.now) N.items) }
-{
-    let count = count_chunks(items.len(), plan.chunk);
-    let workers = (plan.workers as usize).min(count.max(1)) as u32;
-    if workers == 1 {
-        scan_alone::<C, T, M, N, F>(crew, plan, monoid, items, lift, count)
-    } else {
-        scan_together::<C, T, M, F, N>(crew, plan, monoid, items, lift, count, workers)
+    // The joins before each item, and the join of all, where the joins before the chunks are known. Each worker fills pieces of so many chunks.
+    fn finish<C: Crew, N: Chunks<M::Item> + Send + Sync>(
+        &self,
+        crew: &C,
+        started: Started<M::Item>,
+        per: usize,
+    ) -> Result<Vec<M::Item>, AllocError>
+        requires scan { IsScan M.ops F.pre F.post N.items N.sums self.now }
+        requires per { (0 < per) × (per * self.now.size < 2 ^ 64) }
+        requires starts { started.starts.items ≡ prefixes_from (M.ops self.now.monoid.now) N.sums 0 (length N.sums) }
+        requires list { length started.list.items ≡ length self.now.items.now }
+        ensures { IfOk result (λ v. v.items ≡ prefixes (M.ops self.now.monoid.now) N.items) }
+    {
+        know_laws(self.monoid);
+        let Started {
+            starts,
+            list: mut out,
+        } = started;
+        self.fill::<N, C::Runtime>(crew.runtime(), starts.as_slice(), per, out.as_mut_slice());
+        let last = self.total::<N>(out.as_slice());
+        out.push(last)?;
+        Ok(out)
+    }
+
+    // The scan by two workers or more.
+    fn scan_together<C: Crew, N: Chunks<M::Item> + Send + Sync>(
+        &self,
+        crew: &C,
+        count: usize,
+        workers: u32,
+    ) -> Result<Vec<M::Item>, AllocError>
+        requires scan { IsScan M.ops F.pre F.post N.items N.sums self.now }
+        requires names { Names (M.ops self.now.monoid.now) N.sums N.sum_codes N.prefix_codes }
+        requires count { (count ≡ chunk_count self.now.size (length self.now.items.now)) × (count < 2 ^ 62) }
+        requires workers { (2 ≤ workers) × (workers ≤ 64) }
+        ensures { IfOk result (λ v. v.items ≡ prefixes (M.ops self.now.monoid.now) N.items) }
+    {
+        let started = self.find_starts::<C, N>(crew, count, workers)?;
+        self.finish::<C, N>(crew, started, chunks_each(count, workers))
+    }
+
+    // The scan, where the run's lists have names.
+    fn scan_named<C: Crew, N: Chunks<M::Item> + Send + Sync>(
+        &self,
+        crew: &C,
+        most: u32,
+    ) -> Result<Vec<M::Item>, AllocError>
+        requires scan { IsScan M.ops F.pre F.post N.items N.sums self.now }
+        requires names { Names (M.ops self.now.monoid.now) N.sums N.sum_codes N.prefix_codes }
+        requires workers { (1 ≤ most) × (most ≤ 64) }
+        ensures { IfOk result (λ v. v.items ≡ prefixes (M.ops self.now.monoid.now) N.items) }
+    {
+        let count = self.count::<N>();
+        let workers = (most as usize).min(count.max(1)) as u32;
+        if workers == 1 {
+            self.scan_alone::<C, N>(crew, count)
+        } else {
+            self.scan_together::<C, N>(crew, count, workers)
+        }
     }
 }
 
@@ -190,8 +153,15 @@ pub fn scan_lifted<
     ensures { IfOk result (λ v. v.items ≡ prefixes (M.ops monoid.now) (map (L.lifted lift.now) items.now)) }
 {
     know_laws(monoid);
+    let plan = crew.plan();
     let lifted = |x: T| lift.lift(x);
-    scan_named::<C, T, M, _, Brand>(crew, &crew.plan(), monoid, items, &lifted)
+    let scanned = Scanned {
+        monoid,
+        items,
+        lift: &lifted,
+        size: plan.chunk,
+    };
+    scanned.scan_named::<C, Brand>(crew, plan.workers)
 }
 
 /// The same for a closure. K names the code of what it gives for an item; the call passes `Brand` and picks it.
@@ -209,5 +179,12 @@ pub fn scan<
     ensures { IfOk result (λ v. v.items ≡ prefixes (M.ops monoid.now) (map (λ x. (M.ops monoid.now).decode (K.code_of x)) items.now)) }
 {
     know_laws(monoid);
-    scan_named::<C, T, M, F, Brand>(crew, &crew.plan(), monoid, items, lift)
+    let plan = crew.plan();
+    let scanned = Scanned {
+        monoid,
+        items,
+        lift,
+        size: plan.chunk,
+    };
+    scanned.scan_named::<C, Brand>(crew, plan.workers)
 }

@@ -4,7 +4,7 @@ ghost use Rattle.word_monoid.specs.Monoid.{IsItem};
 ghost use Rattle.word_monoid.specs.Folds.{fold_of};
 ghost use Rattle.scan_lookback.specs.Cuts.{Lifts, GivesItems, running};
 
-use std::alloc::{AllocError, Global};
+use std::alloc::AllocError;
 use word_monoid::WordMonoid;
 
 // The join of what is made of the items.
@@ -48,25 +48,7 @@ pub(crate) fn run_onto<T: Copy, M: WordMonoid, F: Fn(T) -> M::Item>(
     Ok(sum)
 }
 
-// The same, as a list of their own: for `work`, by which tests play the protocol's rows.
-pub(crate) fn run_slice<T: Copy, M: WordMonoid, F: Fn(T) -> M::Item>(
-    alloc: Global,
-    monoid: &M,
-    part: &[T],
-    lift: &F,
-    start: M::Item,
-) -> Result<Vec<M::Item>, AllocError>
-    requires callable { All (F.pre lift.now) part.now }
-    requires items { GivesItems (F.post lift.now) (M.ops monoid.now) part.now }
-    requires start { IsItem (M.ops monoid.now) start }
-    ensures { IfOk result (λ v. (lifted : List M.Item) → Lifts (F.post lift.now) part.now lifted → v.items ≡ running (M.ops monoid.now) start lifted) }
-{
-    let mut all = Vec::with_capacity(alloc, part.len())?;
-    run_onto(monoid, part, lift, start, &mut all)?;
-    Ok(all)
-}
-
-// The same, into a list of as many items.
+// The joins of a start with what is made of the items before each, into a list of as many items.
 pub(crate) fn run_into<T: Copy, M: WordMonoid, F: Fn(T) -> M::Item>(
     monoid: &M,
     part: &[T],

@@ -1,55 +1,50 @@
 //! What a worker of a scan does.
 ghost use Rattle.std.specs.Prelude.{◌≡◌, ℕ, ◌<◌, All, map, IfOk, ◌++◌};
 ghost use Rattle.std.specs.Result.{OnOk, OnErr};
-ghost use Rattle.scan_lookback.specs.Cuts.{Scans, chunk_prefixes};
+ghost use Rattle.word_monoid.specs.Folds.{prefix_of};
+ghost use Rattle.scan_lookback.specs.Cuts.{IsScan};
 ghost use Rattle.scan_lookback.specs.LookBacks.{LooksBack};
 ghost use Rattle.scan_lookback.specs.Worked.{Even, Tidy};
 
-use crate::board::{ScanBoard, Seat};
+use crate::boards::{Boards, Team};
+use crate::scanned::Scanned;
 use crate::views::Chunks;
-use chunk_seats::{ClaimBoard, Gate, Plan};
 use std::alloc::{AllocError, Global};
 use word_monoid::WordMonoid;
 
-impl<'a, M: WordMonoid, N: Chunks<M::Item>> ScanBoard<'a, M, N> {
-    /// A worker of a scan that makes its chunks' lists at once: it draws chunks until none is left. The answer has each chunk that was drawn,
-    /// with the joins before each of its items. Of the two seats it keeps that the chunks claimed, done, shown and sealed are the same.
-    ///
-    /// `scan` itself writes the lists when all workers have ended. This is for tests, which play the protocol's rows by it.
-    pub fn work<T: Copy, F: Fn(T) -> M::Item, G: Gate>(
+impl<'a, M: WordMonoid, N: Chunks<M::Item>> Boards<'a, M, N> {
+    /// All that one worker of a scan does: it draws chunks until none is left, publishes the sum of each and looks back. The answer has each
+    /// chunk that was drawn, with the join of the sums before it. `tell` is told of each claim, and once that none was left. Of the two seats
+    /// it keeps that the chunks claimed, done, shown and sealed are the same.
+    pub fn work<T: Copy, F: Fn(T) -> M::Item, G: Fn(Option<u64>)>(
         &self,
         alloc: Global,
-        seat: &mut Seat,
-        claims: &ClaimBoard,
-        mine: &mut chunk_seats::Seat,
-        plan: &Plan,
-        gate: &G,
-        worker: u32,
-        items: &[T],
-        lift: &F,
-    ) -> Result<Vec<(u64, Vec<M::Item>)>, AllocError>
-        requires boards { (seat.old.board ≡ self.now.board) × (mine.old.board ≡ claims.now.board) × (claims.now.chunks ≡ self.now.chunks) }
-        requires unspent { 0 < mine.old.view.share }
-        requires even { Even mine.old.view seat.old.view }
-        requires callable { All (F.pre lift.now) items.now }
-        requires scans { Scans (M.ops self.now.monoid) (F.post lift.now) plan.now.chunk items.now N.items N.sums }
-        ensures boards { (seat.new.board ≡ seat.old.board) × (mine.new.board ≡ mine.old.board) }
-        ensures shares { (seat.new.view.share ≡ seat.old.view.share) × (mine.new.view.weight ≡ mine.old.view.weight) }
-        ensures looked { LooksBack seat.old.view seat.new.view }
-        ensures spent { OnOk result (mine.new.view.share ≡ 0) }
-        ensures even { OnOk result (Even mine.new.view seat.new.view) }
-        ensures drawn { IfOk result (λ v. mine.new.view.claimed ≡ mine.old.view.claimed ++ map (λ p. p.0) v.items) }
-        ensures lists { IfOk result (λ v. All (λ p. p.1.items ≡ chunk_prefixes (M.ops self.now.monoid) plan.now.chunk N.items p.0) v.items) }
-        ensures tidy { OnErr result (Tidy mine.new.view seat.new.view) }
+        team: &mut Team,
+        scanned: &Scanned<'_, T, M, F>,
+        tell: &G,
+    ) -> Result<Vec<(u64, M::Item)>, AllocError>
+        requires boards { (team.old.seat.board ≡ self.now.status.board) × (team.old.mine.board ≡ self.now.claims.board) × (self.now.claims.chunks ≡ self.now.status.chunks) }
+        requires told { G.IsAlwaysCallable tell.now }
+        requires unspent { 0 < team.old.mine.view.share }
+        requires even { Even team.old.mine.view team.old.seat.view }
+        requires scan { IsScan M.ops F.pre F.post N.items N.sums scanned.now }
+        ensures boards { (team.new.seat.board ≡ team.old.seat.board) × (team.new.mine.board ≡ team.old.mine.board) }
+        ensures shares { (team.new.seat.view.share ≡ team.old.seat.view.share) × (team.new.mine.view.weight ≡ team.old.mine.view.weight) }
+        ensures looked { LooksBack team.old.seat.view team.new.seat.view }
+        ensures spent { OnOk result (team.new.mine.view.share ≡ 0) }
+        ensures even { OnOk result (Even team.new.mine.view team.new.seat.view) }
+        ensures drawn { IfOk result (λ v. team.new.mine.view.claimed ≡ team.old.mine.view.claimed ++ map (λ p. p.0) v.items) }
+        ensures starts { IfOk result (λ v. All (λ p. p.1 ≡ prefix_of (M.ops self.now.status.monoid) N.sums p.0) v.items) }
+        ensures tidy { OnErr result (Tidy team.new.mine.view team.new.seat.view) }
     {
         let mut all = Vec::new(alloc);
-        while let Some(c) = claims.claim(mine) {
-            gate.after_claim(worker, Some(c));
-            let list = self.chunk(alloc, seat, items, lift, plan.chunk, c)?;
-            all.push((c, list))?;
-            claims.done(mine, c);
+        while let Some(c) = self.claims.claim(&mut team.mine) {
+            tell(Some(c));
+            let start = self.status.publish(&mut team.seat, scanned, c);
+            all.push((c, start))?;
+            self.claims.done(&mut team.mine, c);
         }
-        gate.after_claim(worker, None);
+        tell(None);
         Ok(all)
     }
 }

@@ -1,8 +1,6 @@
 -- Items that are cut into chunks: what is made of a chunk, and of the chunks before it.
 use Rattle.std.proofs.Common.{◌≡◌, ℕ, zero, suc, ◌+◌, ◌-◌, ◌*◌, ◌/◌, ◌%◌, ◌^◌, ◌<◌, ◌≤◌, min, max, List, [], ◌∷◌, ◌++◌, length, get_or, take, drop, map, All, fold, Some, slice_get, refl, append_assoc, sym, ap, ◌∙◌, subst, arith, add-one, suc-mul, mul-le-mul_right, div-add-mod', take-add}
 use Rattle.std.proofs.Math.Nat.{mul_assoc}
-use mathlib.Core.Logic.{dite}
-use native.Mathlib.Decide.{dec_le}
 use Rattle.std.specs.List.{range_with_len}
 use Rattle.std.proofs.lemmas.List.{length-take, length-drop, take-take}
 use Rattle.std.proofs.lemmas.List.Elements.{All-take, All-drop}
@@ -13,7 +11,7 @@ use Rattle.chunk_seats.specs.Laws.Counted.{chunk_inside, chunk_near}
 use Rattle.word_monoid.specs.Monoid.{Ops, IsItem, IsMonoid}
 use Rattle.word_monoid.specs.Folds.{fold_of, prefix_of, prefixes_from}
 use Rattle.word_monoid.specs.Laws.Folds.{get_below, get_at, all_at, fold_of-item, fold_append, prefix_next}
-use Rattle.scan_lookback.specs.Cuts.{Lifts, GivesItems, sums_of, chunk_prefixes, running, Scans}
+use Rattle.scan_lookback.specs.Cuts.{Lifts, GivesItems, sums_of, running, Scans}
 use Rattle.scan_lookback.specs.Laws.Lists.{get_take, take_get, get_drop, get_range, map_ranges}
 
 -- a piece of so many chunks has few items
@@ -152,14 +150,6 @@ module _ {I : Type 0} (ops : Ops I) (laws : IsMonoid ops) (size : ℕ) (pos : 0 
       ∙ (ap (λ (x : I). ops.join x (fold_of ops (chunk_of size items c))) (chunk_before c (omega arith))
       ∙ (sym (prefix_join (c * size) size) ∙ ap (prefix_of ops items) n)))
 
-  module _ (c : ℕ) (near : c < length sums) (start : I) (is : start ≡ prefix_of ops sums c) where
-    from_here : start ≡ prefix_of ops items (c * size)
-    from_here = is ∙ chunk_before c (omega (arith, length-sums))
-
-    -- a loop over the chunk's items makes its prefixes
-    pub runs_list : (list : List I) → list ≡ running ops start (chunk_of size items c) → list ≡ chunk_prefixes ops size items c
-    runs_list list made = runs_from ops items (c * size) size start from_here list made
-
 -- the same of a scan that is named
 module _ {T I : Type 0} (ops : Ops I) (post : T → I → Type 0) (size : ℕ) (items : List T) (lifted sums : List I) (scans : Scans ops post size items lifted sums) where
   pub count_is : length sums ≡ chunk_count size (length lifted)
@@ -179,16 +169,6 @@ module _ {T I : Type 0} (ops : Ops I) (post : T → I → Type 0) (size : ℕ) (
   sum_of_chunk c h part is sum folds =
       ap (λ (l : List I). slice_get l c) scans.cut
       ∙ (get_range (λ (k : ℕ). fold_of ops (chunk_of size lifted k)) (chunk_count size (length lifted)) c ops.unit (omega (arith, count_is)) ∙ ap Some (sym (folds (chunk_of size lifted c) (lifts_part c part is))))
-
-  module _ (laws : IsMonoid ops) (pos : 0 < size) (c : ℕ) (near : c < length sums) (part : List T) (part_is : part ≡ chunk_of size items c) (start : I) (start_is : start ≡ prefix_of ops sums c) where
-    near_here : c < length (sums_of ops size lifted)
-    near_here = subst (λ (l : List I). c < length l) scans.cut near
-
-    starts_here : start ≡ prefix_of ops (sums_of ops size lifted) c
-    starts_here = start_is ∙ ap (λ (l : List I). prefix_of ops l c) scans.cut
-
-    pub list_of_chunk : (list : List I) → ((ys : List I) → Lifts post part ys → list ≡ running ops start ys) → list ≡ chunk_prefixes ops size lifted c
-    list_of_chunk list runs = runs_list ops laws size pos lifted scans.accepted c near_here start starts_here list (runs (chunk_of size lifted c) (lifts_part c part part_is))
 
   -- a piece of the items that begins where a chunk does
   module _ (laws : IsMonoid ops) (pos : 0 < size) (c a n : ℕ) (begins : c * size ≡ a) (inside : a + n ≤ length items) (some : 0 < n) where
@@ -212,8 +192,3 @@ module _ {T I : Type 0} (ops : Ops I) (post : T → I → Type 0) (size : ℕ) (
         let long : length (take n (drop a lifted)) ≡ n = omega (arith, length-range a n lifted, scans.lifts.as_many) in
         let lifts : Lifts post part (take n (drop a lifted)) = subst (λ (l : List T). Lifts post l (take n (drop a lifted))) (sym is) (lifts_range post items lifted scans.lifts a n) in
         runs_from ops lifted a n start (start_is ∙ piece_starts) out (runs (take n (drop a lifted)) lifts) ∙ ap (prefixes_from ops lifted a) long
-
--- the same scan, where the monoid has another name
-pub scans_as : {M T I : Type 0} (ops : M → Ops I) (post : T → I → Type 0) (size : ℕ) (items : List T) (lifted sums : List I) (k m : M) → k ≡ m
-    → Scans (ops m) post size items lifted sums → Scans (ops k) post size items lifted sums
-scans_as {M} ops post size items lifted sums k m same scans = subst (λ (n : M). Scans (ops n) post size items lifted sums) (sym same) scans

@@ -1,12 +1,17 @@
 use Rattle.scan_lookback.proofs.Naming.{scans_of, names_of}
 use Rattle.scan_lookback.proofs.single_pass.scan.Goals as goal
 
-pub scan_named-requires-clause-scans : goal.scan_named-requires-clause-scans
-scan_named-requires-clause-scans g c = λ κs within.
+pub scan_named-requires-clause-scan : goal.scan_named-requires-clause-scan
+scan_named-requires-clause-scan g c = λ κs within.
     let m = c.args.monoid.now in
-    scans_of (g.M.WordMonoid.ops m) (λ x. (g.M.WordMonoid.ops m).decode (g.K.Lifted.code_of x)) c.args.items.now c.requires.accepted c.plan.result.chunk c.plan.result.chunk_in_range.0 _ c.requires.lifts
+    record {
+      callable = c.requires.callable;
+      scans = scans_of (g.M.WordMonoid.ops m) (λ x. (g.M.WordMonoid.ops m).decode (g.K.Lifted.code_of x)) c.args.items.now c.requires.accepted c.plan-plan.result.chunk c.plan-plan.result.chunk_in_range.0 _ c.requires.lifts;
+      sized = c.plan-plan.result.chunk_in_range;
+      short = c.requires.len;
+    }
 
 pub scan_named-requires-clause-names : goal.scan_named-requires-clause-names
 scan_named-requires-clause-names g c = λ κs within.
     let m = c.args.monoid.now in
-    names_of (g.M.WordMonoid.ops m) (λ x. (g.M.WordMonoid.ops m).decode (g.K.Lifted.code_of x)) c.args.items.now c.requires.accepted c.plan.result.chunk c.plan.result.chunk_in_range.0 c.know_laws.ensures
+    names_of (g.M.WordMonoid.ops m) (λ x. (g.M.WordMonoid.ops m).decode (g.K.Lifted.code_of x)) c.args.items.now c.requires.accepted c.plan-plan.result.chunk c.plan-plan.result.chunk_in_range.0 c.know_laws.ensures

@@ -6,10 +6,10 @@ use Rattle.scan_lookback.proofs.single_pass.scan_lifted.Given as goal
 -- the lists of this run's items
 abbrev pub ghosts-scan_named-N-Chunks : goal.ghosts-scan_named-N-Chunks
 ghosts-scan_named-N-Chunks g a =
-    let ops = g.M.WordMonoid.ops a.monoid.now in let items = map (g.L.Lift.lifted a.lift.now.0.now) a.items.now in
-    record { items = items; sums = sums_of ops a.plan.now.chunk items }
+    let s = a.self.now in let ops = g.M.WordMonoid.ops s.monoid.now in let items = map (g.L.Lift.lifted s.lift.now.0.now) s.items.now in
+    record { items = items; sums = sums_of ops s.size items }
 
 abbrev pub ghosts-scan_named-N-Codes : goal.ghosts-scan_named-N-Codes
 ghosts-scan_named-N-Codes g a =
-    let ops = g.M.WordMonoid.ops a.monoid.now in let sums = sums_of ops a.plan.now.chunk (map (g.L.Lift.lifted a.lift.now.0.now) a.items.now) in
+    let s = a.self.now in let ops = g.M.WordMonoid.ops s.monoid.now in let sums = sums_of ops s.size (map (g.L.Lift.lifted s.lift.now.0.now) s.items.now) in
     record { sum_codes = map ops.code sums; prefix_codes = map ops.code (prefixes_from ops sums 1 (length sums)) }
