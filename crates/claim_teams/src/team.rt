@@ -16,6 +16,17 @@ use std::thread::{Threads, join_mut};
 /// The chunks that workers have drawn, with what was made of each. Where memory ran out they have drawn on, and made no more.
 pub(crate) type Made<B> = Result<Vec<(u64, B)>, AllocError>;
 
+// Workers of a team.
+#[derive(Clone, Copy)]
+struct Group {
+    // The chunk that the first of them has begun with, if there is one.
+    begun: Option<u64>,
+    // The number of the first of them.
+    first: u32,
+    // How many they are.
+    workers: u32,
+}
+
 // What was made so far, and what is made of one chunk more.
 fn one_more<B: Drop, F: Fn(u64) -> Result<B, AllocError>>(
     so_far: Made<B>,
@@ -78,59 +89,73 @@ fn appended<B: Drop>(one: Made<B>, two: Made<B>) -> Made<B>
     Ok(all)
 }
 
-// Two groups of workers side by side. The first of them may have begun.
+// Two groups of workers side by side.
 #[cycle(teams)]
 fn both<R: Threads + Sync, G: Gate, B: Drop + Send, F: Fn(u64) -> Result<B, AllocError> + Sync>(
     job: &Job<'_, R, G, F>,
     mine: &mut Seat,
     theirs: &mut Seat,
-    begun: Option<u64>,
-    first: u32,
-    rest: u32,
-    half: u32,
+    here: Group,
+    there: Group,
 ) -> (Made<B>, Made<B>)
-    requires workers { (1 ≤ rest) × (1 ≤ half) × (first + (rest + half) ≤ 64) }
-    requires mine { (mine.old.board ≡ job.now.claims.now.board) × (mine.old.view ≡ beginning begun rest) × IfSome begun (λ c. c < job.now.claims.now.chunks) }
-    requires theirs { (theirs.old.board ≡ job.now.claims.now.board) × (theirs.old.view ≡ fresh half) }
+    requires here { (1 ≤ here.workers) × (here.first + here.workers ≤ 64) }
+    requires there { (1 ≤ there.workers) × (there.first + there.workers ≤ 64) }
+    requires mine { (mine.old.board ≡ job.now.claims.now.board) × (mine.old.view ≡ beginning here.begun here.workers) × IfSome here.begun (λ c. c < job.now.claims.now.chunks) }
+    requires theirs { (theirs.old.board ≡ job.now.claims.now.board) × (theirs.old.view ≡ beginning there.begun there.workers) × IfSome there.begun (λ c. c < job.now.claims.now.chunks) }
     requires callable { Callable job.now.claims.now.chunks (F.pre job.now.make.now) }
-    ensures mine { Works job.now.claims.now.chunks (F.post job.now.make.now) job.now.claims.now.board begun rest mine.new result.0 }
-    ensures theirs { Works job.now.claims.now.chunks (F.post job.now.make.now) job.now.claims.now.board None half theirs.new result.1 }
+    ensures mine { Works job.now.claims.now.chunks (F.post job.now.make.now) job.now.claims.now.board here.begun here.workers mine.new result.0 }
+    ensures theirs { Works job.now.claims.now.chunks (F.post job.now.make.now) job.now.claims.now.board there.begun there.workers theirs.new result.1 }
 {
-    let mut here = || -> Made<B>
-        requires { IsSync R.row × IsSync G.row × IsSync F.row × IsSend B.row × (1 ≤ rest) × (first + rest ≤ 64)
-            × (mine.now.board ≡ job.now.claims.now.board) × (mine.now.view ≡ beginning begun rest) × IfSome begun (λ c. c < job.now.claims.now.chunks)
+    let mut one = || -> Made<B>
+        requires { IsSync R.row × IsSync G.row × IsSync F.row × IsSend B.row × (1 ≤ here.workers) × (here.first + here.workers ≤ 64)
+            × (mine.now.board ≡ job.now.claims.now.board) × (mine.now.view ≡ beginning here.begun here.workers) × IfSome here.begun (λ c. c < job.now.claims.now.chunks)
             × Callable job.now.claims.now.chunks (F.pre job.now.make.now) }
-        ensures { Works job.entry.now.claims.now.chunks (F.post job.entry.now.make.now) job.entry.now.claims.now.board begun rest mine.exit.now result }
-    { team(job, mine, begun, first, rest) };
-    let mut there = || -> Made<B>
-        requires { IsSync R.row × IsSync G.row × IsSync F.row × IsSend B.row × (1 ≤ half) × (first + (rest + half) ≤ 64)
-            × (theirs.now.board ≡ job.now.claims.now.board) × (theirs.now.view ≡ fresh half) × Callable job.now.claims.now.chunks (F.pre job.now.make.now) }
-        ensures { Works job.entry.now.claims.now.chunks (F.post job.entry.now.make.now) job.entry.now.claims.now.board None half theirs.exit.now result }
-    { team(job, theirs, None, first + rest, half) };
-    join_mut(job.runtime, &mut here, &mut there)
+        ensures { Works job.entry.now.claims.now.chunks (F.post job.entry.now.make.now) job.entry.now.claims.now.board here.begun here.workers mine.exit.now result }
+    { team(job, mine, here) };
+    let mut two = || -> Made<B>
+        requires { IsSync R.row × IsSync G.row × IsSync F.row × IsSend B.row × (1 ≤ there.workers) × (there.first + there.workers ≤ 64)
+            × (theirs.now.board ≡ job.now.claims.now.board) × (theirs.now.view ≡ beginning there.begun there.workers) × IfSome there.begun (λ c. c < job.now.claims.now.chunks)
+            × Callable job.now.claims.now.chunks (F.pre job.now.make.now) }
+        ensures { Works job.entry.now.claims.now.chunks (F.post job.entry.now.make.now) job.entry.now.claims.now.board there.begun there.workers theirs.exit.now result }
+    { team(job, theirs, there) };
+    join_mut(job.runtime, &mut one, &mut two)
 }
 
-// So many workers, of whom the first has the number `first`, and may have begun with a chunk. The seat is theirs, and takes in all others in the end.
+// What a group of workers makes. The seat is theirs, and takes in all others in the end.
 #[cycle(teams)]
 fn team<R: Threads + Sync, G: Gate, B: Drop + Send, F: Fn(u64) -> Result<B, AllocError> + Sync>(
     job: &Job<'_, R, G, F>,
     mine: &mut Seat,
-    begun: Option<u64>,
-    first: u32,
-    workers: u32,
+    group: Group,
 ) -> Made<B>
-    requires workers { (1 ≤ workers) × (first + workers ≤ 64) }
+    requires workers { (1 ≤ group.workers) × (group.first + group.workers ≤ 64) }
     requires board { mine.old.board ≡ job.now.claims.now.board }
-    requires begun { (mine.old.view ≡ beginning begun workers) × IfSome begun (λ c. c < job.now.claims.now.chunks) }
+    requires begun { (mine.old.view ≡ beginning group.begun group.workers) × IfSome group.begun (λ c. c < job.now.claims.now.chunks) }
     requires callable { Callable job.now.claims.now.chunks (F.pre job.now.make.now) }
-    ensures { Works job.now.claims.now.chunks (F.post job.now.make.now) job.now.claims.now.board begun workers mine.new result }
+    ensures { Works job.now.claims.now.chunks (F.post job.now.make.now) job.now.claims.now.board group.begun group.workers mine.new result }
 {
+    let Group {
+        begun,
+        first,
+        workers,
+    } = group;
     if workers == 1 {
         return work(job, mine, begun, first);
     }
     let half = workers / 2;
+    let rest = workers - half;
     let mut theirs = job.claims.split(mine, half);
-    let (one, two) = both(job, mine, &mut theirs, begun, first, workers - half, half);
+    let here = Group {
+        begun,
+        first,
+        workers: rest,
+    };
+    let there = Group {
+        begun: None,
+        first: first + rest,
+        workers: half,
+    };
+    let (one, two) = both(job, mine, &mut theirs, here, there);
     job.claims.join(mine, theirs);
     appended(one, two)
 }
@@ -165,11 +190,9 @@ pub fn make_each<C: Crew, B: Drop + Send, F: Fn(u64) -> Result<B, AllocError> + 
     claims: &ClaimBoard,
     mine: &mut Seat,
     workers: u32,
-    count: u64,
     make: &F,
 ) -> Result<Vec<(u64, B)>, AllocError>
     requires workers { (1 ≤ workers) × (workers ≤ 64) × (workers ≡ claims.now.seats) }
-    requires count { count ≡ claims.now.chunks }
     requires first { mine.old ≡ held claims.now.board (fresh claims.now.seats) }
     requires callable { Callable claims.now.chunks (F.pre make.now) }
     // Each number is claimed once, and what is made stands beside each.
@@ -190,7 +213,12 @@ pub fn make_each<C: Crew, B: Drop + Send, F: Fn(u64) -> Result<B, AllocError> + 
     let Some(first) = claims.claim(mine) else {
         return Ok(Vec::new(crew.alloc()));
     };
-    let all = team(&job, mine, Some(first), 0, workers);
-    count_done(claims, mine, first, count);
+    let group = Group {
+        begun: Some(first),
+        first: 0,
+        workers,
+    };
+    let all = team(&job, mine, group);
+    count_done(claims, mine, first, claims.chunks());
     all
 }

@@ -1,32 +1,21 @@
--- Numbers that are chosen, one by one and chunk by chunk.
-use Rattle.std.proofs.Common.{◌≡◌, ℕ, zero, suc, ◌+◌, ◌*◌, ◌<◌, Bool, false, cond, All, List, [], ◌∷◌, ◌++◌, length, get_or, slice_get, Option, Some, None, take, map, filter, refl, sym, ap, ◌∙◌, subst, add-one, suc-mul, take-add, append_assoc}
+-- Numbers that are chosen, one by one.
+use Rattle.std.proofs.Common.{◌≡◌, ℕ, zero, suc, ◌+◌, ◌<◌, Bool, false, cond, All, List, [], ◌∷◌, ◌++◌, length, get_or, slice_get, Option, Some, None, map, filter, refl, sym, ap, ◌∙◌, subst}
 use Rattle.std.specs.List.{range_with_len}
 use Rattle.std.proofs.lemmas.List.{length-map}
 use Rattle.std.proofs.lemmas.List.Elements.{filter-append}
 use Rattle.std.proofs.lemmas.List.FromFn.{fill_by_all}
 use Rattle.std.proofs.lemmas.Option.{slice_get-get_or}
-use Rattle.chunk_seats.specs.Chunks.{chunk_of}
 use Rattle.par_passes.specs.Passes.{GaveAt, marked}
 use Rattle.par_passes.specs.Laws.Calling.{marked_by}
 use Rattle.par_passes.specs.Laws.Giving.{all_numbers}
 use Rattle.par_passes.specs.Laws.Marking.{range_next}
 
 -- one number more
-pub choose_more : (h : ℕ → Bool) (a n : ℕ) (old out next : List ℕ) (b : Bool) → out ≡ old ++ filter h (range_with_len a n) → b ≡ h (a + n) → next ≡ out ++ cond b ((a + n) ∷ []) [] → next ≡ old ++ filter h (range_with_len a (n + 1))
-choose_more h a n old out next b so_far told is =
+pub choose_more : (h : ℕ → Bool) (a n : ℕ) (out next : List ℕ) (b : Bool) → out ≡ filter h (range_with_len a n) → b ≡ h (a + n) → next ≡ out ++ cond b ((a + n) ∷ []) [] → next ≡ filter h (range_with_len a (n + 1))
+choose_more h a n out next b so_far told is =
     is
     ∙ ((λ i. so_far i ++ cond (told i) ((a + n) ∷ []) [])
-    ∙ (append_assoc old (filter h (range_with_len a n)) (cond (h (a + n)) ((a + n) ∷ []) [])
-    ∙ ap (λ (l : List ℕ). old ++ l) (sym (ap (filter h) (range_next a n) ∙ filter-append h (range_with_len a n) ((a + n) ∷ [])))))
-
--- one chunk more
-pub choose_chunk_more : (h : ℕ → Bool) (xs : List ℕ) (size c : ℕ) (out next : List ℕ) → out ≡ filter h (take (c * size) xs) → next ≡ out ++ filter h (chunk_of size xs c) → next ≡ filter h (take ((c + 1) * size) xs)
-choose_chunk_more h xs size c out next so_far is =
-    let step : c * size + size ≡ (c + 1) * size = sym (suc-mul c size) ∙ ap (λ (k : ℕ). k * size) (sym (add-one c)) in
-    is
-    ∙ (ap (λ (l : List ℕ). l ++ filter h (chunk_of size xs c)) so_far
-    ∙ (sym (filter-append h (take (c * size) xs) (chunk_of size xs c))
-    ∙ (sym (ap (filter h) (take-add (c * size) size xs)) ∙ ap (λ (k : ℕ). filter h (take k xs)) step)))
+    ∙ sym (ap (filter h) (range_next a n) ∙ filter-append h (range_with_len a n) ((a + n) ∷ [])))
 
 module _ {T : Type 0} (post : T → Bool → Type 0) (items : List T) (h : T → Bool) where
   abbrev said_of : Option T → Bool

@@ -1,12 +1,7 @@
 -- Answers of the chunks, as workers go on.
-use Rattle.std.proofs.Common.{◌≡◌, ℕ, ◌+◌, List, [], ◌∷◌, ◌++◌, map, All, Result, sym, ap, ◌∙◌, subst, arith, append_assoc}
+use Rattle.std.proofs.Common.{◌≡◌, ℕ, List, [], ◌∷◌, ◌++◌, map, All, sym, ap, ◌∙◌, subst, append_assoc}
 use Rattle.std.proofs.lemmas.List.{map-append}
-use Rattle.std.proofs.lemmas.List.Elements.{All-append, All-push}
-use Rattle.chunk_seats.specs.declared.views.ClaimView.{ClaimView}
-use Rattle.chunk_seats.specs.Claims.{joining, shares}
-use Rattle.atomic_table.specs.Seated.{TableId}
-use Rattle.par_passes.specs.declared.crew.Made.{Made}
-use Rattle.par_passes.specs.Crews.{Gave, Makes}
+use Rattle.std.proofs.lemmas.List.Elements.{All-push}
 
 -- one more chunk among the answers
 pub answers_more : {L : Type 0} (from to old : List ℕ) (all all' : List (ℕ × L)) (c : ℕ) (x : L) → from ≡ old ++ map (λ (p : ℕ × L). p.0) all → to ≡ from ++ c ∷ [] → all' ≡ all ++ (c, x) ∷ [] → to ≡ old ++ map (λ (p : ℕ × L). p.0) all'

@@ -46,38 +46,36 @@ fn work<B: Drop, F: Fn(u64) -> Result<B, AllocError>, G: Fn(Option<u64>)>(
     Ok(all)
 }
 
-// Two groups of workers are one.
-fn merge<B: Drop, F: Fn(u64) -> Result<B, AllocError>>(
-    claims: &ClaimBoard,
-    make: &F,
-    rest: u32,
-    half: u32,
-    one: Made<B>,
-    two: Made<B>,
-) -> Result<Made<B>, AllocError>
-    requires one { Makes claims.now.chunks (F.post make.now) claims.now.board rest one }
-    requires two { Makes claims.now.chunks (F.post make.now) claims.now.board half two }
-    ensures { IfOk result (λ r. Makes claims.now.chunks (F.post make.now) claims.now.board (rest + half) r) }
-{
-    // The contract alone speaks of these.
-    let _ = make;
-    let _ = (rest, half);
-    let Made { mut mine, mut all } = one;
-    let Made {
-        mine: theirs,
-        all: mut more,
-    } = two;
-    claims.join(&mut mine, theirs);
-    all.append(&mut more)?;
-    Ok(Made { mine, all })
-}
-
 // The workers of a pass: each draws chunks, and makes a bundle of each.
 #[derive(Drop)]
 struct Making<'a, C, F> {
     crew: &'a C,
     claims: &'a ClaimBoard,
     make: &'a F,
+}
+
+// Two groups of workers are one.
+fn merge<C, B: Drop, F: Fn(u64) -> Result<B, AllocError>>(
+    making: &Making<'_, C, F>,
+    rest: u32,
+    half: u32,
+    one: Made<B>,
+    two: Made<B>,
+) -> Result<Made<B>, AllocError>
+    requires one { Makes making.now.claims.now.chunks (F.post making.now.make.now) making.now.claims.now.board rest one }
+    requires two { Makes making.now.claims.now.chunks (F.post making.now.make.now) making.now.claims.now.board half two }
+    ensures { IfOk result (λ r. Makes making.now.claims.now.chunks (F.post making.now.make.now) making.now.claims.now.board (rest + half) r) }
+{
+    // The contract alone speaks of these.
+    let _ = (rest, half);
+    let Made { mut mine, mut all } = one;
+    let Made {
+        mine: theirs,
+        all: mut more,
+    } = two;
+    making.claims.join(&mut mine, theirs);
+    all.append(&mut more)?;
+    Ok(Made { mine, all })
 }
 
 impl<C: Crew, B: Drop + Send, F: Fn(u64) -> Result<B, AllocError> + Sync> Task
@@ -118,7 +116,7 @@ impl<C: Crew, B: Drop + Send, F: Fn(u64) -> Result<B, AllocError> + Sync> Task
         one: Result<Made<B>, AllocError>,
         two: Result<Made<B>, AllocError>,
     ) -> Result<Made<B>, AllocError> {
-        merge(self.claims, self.make, rest, half, one?, two?)
+        merge(self, rest, half, one?, two?)
     }
 }
 

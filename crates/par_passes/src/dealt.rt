@@ -10,13 +10,20 @@ ghost use Rattle.list_parts.specs.declared.part.Part.{Part as Piece};
 ghost use Rattle.par_passes.specs.Dealt.{Serves, InPlace, IsWhole};
 ghost use Rattle.par_passes.specs.Passes.{Gives};
 
-use crate::in_turn::{InTurn, in_turn};
 use chunk_seats::{Crew, Gate, Plan};
 use deal_board::{DealBoard, Goods, Returned, Seat};
 use list_parts::{Part, with_part};
 use std::alloc::{AllocError, Global};
 use std::marker::Brand;
 use worker_teams::{Task, chunk_start, count_chunks, run};
+
+// What a list is filled with: what a function gives for each number below a length, in chunks.
+#[derive_where(Clone, Copy)]
+struct Filling<'a, F> {
+    plan: Plan,
+    len: usize,
+    f: &'a F,
+}
 
 // What the function gives for each number from `from` on, at its place. So many of the first values are there already.
 fn fill_behind<U: Copy, F: Fn(usize) -> U>(out: &mut [U], from: usize, known: usize, f: &F)
@@ -49,40 +56,38 @@ fn fill_drawn<U: Copy, F: Fn(usize) -> U, N: Goods<Part<U>>, G: Fn(Option<u64>)>
     board: &DealBoard<Part<U>, N>,
     mine: &mut Seat<Part<U>>,
     tell: &G,
-    len: usize,
-    size: u32,
-    f: &F,
+    filling: &Filling<'_, F>,
 )
     requires told { G.IsAlwaysCallable tell.now }
     requires board { mine.old.board ≡ board.now.board }
     requires unspent { 0 < mine.old.view.share }
     requires empty { mine.old.hand ≡ None }
-    requires callable { All (F.pre f.now) (range_with_len 0 len) }
-    requires len { len < 2 ^ 62 }
-    requires serves { Serves (F.post f.now) size (range_with_len 0 len) N.items N.good }
+    requires callable { All (F.pre filling.now.f.now) (range_with_len 0 filling.now.len) }
+    requires len { filling.now.len < 2 ^ 62 }
+    requires serves { Serves (F.post filling.now.f.now) filling.now.plan.chunk (range_with_len 0 filling.now.len) N.items N.good }
     ensures board { mine.new.board ≡ mine.old.board }
     ensures weight { mine.new.view.weight ≡ mine.old.view.weight }
     ensures spent { (mine.new.view.share ≡ 0) × (mine.new.hand ≡ None) }
 {
+    let len = filling.len;
+    let size = filling.plan.chunk;
     while let Some(c) = board.deal(mine) {
         tell(Some(c));
-        fill_part(mine.item_mut(board, c), len, size, c, f);
+        fill_part(mine.item_mut(board, c), len, size, c, filling.f);
     }
     tell(None);
 }
 
 // The workers that fill a list: each fills the parts that it draws.
 #[derive(Drop)]
-struct Filling<'a, U, F, N: Goods<Part<U>>, G> {
+struct Drawing<'a, U, F, N: Goods<Part<U>>, G> {
     board: &'a DealBoard<Part<U>, N>,
     gate: &'a G,
-    len: usize,
-    size: u32,
-    f: &'a F,
+    filling: Filling<'a, F>,
 }
 
 impl<U: Copy + Send + Sync, F: Fn(usize) -> U + Sync, N: Goods<Part<U>> + Send + Sync, G: Gate> Task
-    for Filling<'_, U, F, N, G> {
+    for Drawing<'_, U, F, N, G> {
     type Seats = Seat<Part<U>>;
 
     type Made = Seat<Part<U>>;
@@ -95,9 +100,9 @@ impl<U: Copy + Send + Sync, F: Fn(usize) -> U + Sync, N: Goods<Part<U>> + Send +
     ghost begins = { λ task workers mine.
         (mine.board ≡ task.board.now.board)
         × ((mine.view ≡ fresh workers) × (mine.hand ≡ None))
-        × (task.len < 2 ^ 62)
-        × All (F.pre task.f.now) (range_with_len 0 task.len)
-        × Serves (F.post task.f.now) task.size (range_with_len 0 task.len) N.items N.good };
+        × (task.filling.len < 2 ^ 62)
+        × All (F.pre task.filling.f.now) (range_with_len 0 task.filling.len)
+        × Serves (F.post task.filling.f.now) task.filling.plan.chunk (range_with_len 0 task.filling.len) N.items N.good };
 
     ghost ends = { λ task workers mine.
         (mine.board ≡ task.board.now.board)
@@ -113,7 +118,7 @@ impl<U: Copy + Send + Sync, F: Fn(usize) -> U + Sync, N: Goods<Part<U>> + Send +
     fn work(&self, mine: Seat<Part<U>>, worker: u32) -> Seat<Part<U>> {
         let mut mine = mine;
         let tell = |chunk: Option<u64>| self.gate.after_claim(worker, chunk);
-        fill_drawn(self.board, &mut mine, &tell, self.len, self.size, self.f);
+        fill_drawn(self.board, &mut mine, &tell, &self.filling);
         mine
     }
 
@@ -153,17 +158,15 @@ fn fill_parts<
 >(
     crew: &C,
     workers: u32,
-    len: usize,
-    size: u32,
-    f: &F,
+    filling: &Filling<'_, F>,
     parts: Vec<Part<U>>,
 ) -> Result<Part<U>, Vec<Part<U>>>
     requires named { parts.items ≡ N.items }
     requires few { (0 < length N.items) × (length N.items < 2 ^ 62) }
     requires workers { (1 ≤ workers) × (workers ≤ 64) }
-    requires callable { All (F.pre f.now) (range_with_len 0 len) }
-    requires len { len < 2 ^ 62 }
-    requires serves { Serves (F.post f.now) size (range_with_len 0 len) N.items N.good }
+    requires callable { All (F.pre filling.now.f.now) (range_with_len 0 filling.now.len) }
+    requires len { filling.now.len < 2 ^ 62 }
+    requires serves { Serves (F.post filling.now.f.now) filling.now.plan.chunk (range_with_len 0 filling.now.len) N.items N.good }
     requires in_place { InPlace N.items N.good }
     requires place { (start : Ptr) × Chain (type_size U.row) start N.items }
     requires size { Fits (type_size U.row) (length (flat_map part_items N.items)) }
@@ -172,14 +175,12 @@ fn fill_parts<
 {
     match DealBoard::<Part<U>, N>::new(crew.alloc(), parts, workers) {
         Ok((board, mine)) => {
-            let filling = Filling {
+            let drawing = Drawing {
                 board: &board,
                 gate: crew.gate(),
-                len,
-                size,
-                f,
+                filling: *filling,
             };
-            let mine = run(crew.runtime(), &filling, mine, 0, workers);
+            let mine = run(crew.runtime(), &drawing, mine, 0, workers);
             Ok(glue_back(board.close(mine)))
         }
         Err(parts) => Err(parts),
@@ -190,51 +191,48 @@ fn fill_parts<
 fn deal_parts<C: Crew, U: Copy + Send + Sync, F: Fn(usize) -> U + Sync>(
     crew: &C,
     workers: u32,
-    len: usize,
-    size: u32,
-    f: &F,
+    filling: &Filling<'_, F>,
     parts: Vec<Part<U>>,
 ) -> Result<Part<U>, Vec<Part<U>>>
     requires few { (0 < length parts.items) × (length parts.items < 2 ^ 62) }
     requires workers { (1 ≤ workers) × (workers ≤ 64) }
-    requires callable { All (F.pre f.now) (range_with_len 0 len) }
-    requires len { len < 2 ^ 62 }
-    requires chunks { (0 < size) × (length parts.items ≡ chunk_count size len) }
-    requires wide { (c : ℕ) (part : Piece U) → slice_get parts.items c ≡ Some part → length (chunk_of size (range_with_len 0 len) c) ≡ length (part_items part) }
-    requires known { (c : ℕ) (part : Piece U) → slice_get parts.items c ≡ Some part → Gives (F.post f.now) (take (1 - c) (chunk_of size (range_with_len 0 len) c)) (take (1 - c) (part_items part)) }
+    requires callable { All (F.pre filling.now.f.now) (range_with_len 0 filling.now.len) }
+    requires len { filling.now.len < 2 ^ 62 }
+    requires chunks { length parts.items ≡ chunk_count filling.now.plan.chunk filling.now.len }
+    requires wide { (c : ℕ) (part : Piece U) → slice_get parts.items c ≡ Some part → length (chunk_of filling.now.plan.chunk (range_with_len 0 filling.now.len) c) ≡ length (part_items part) }
+    requires known { (c : ℕ) (part : Piece U) → slice_get parts.items c ≡ Some part
+        → Gives (F.post filling.now.f.now) (take (1 - c) (chunk_of filling.now.plan.chunk (range_with_len 0 filling.now.len) c)) (take (1 - c) (part_items part)) }
     requires place { (start : Ptr) × Chain (type_size U.row) start parts.items }
     requires size { Fits (type_size U.row) (length (flat_map part_items parts.items)) }
     ensures place { IfOk result (λ p. (start : Ptr) → Chain (type_size U.row) start parts.items → part_start p ≡ start) }
     ensures wide { IfOk result (λ p. length (part_items p) ≡ length (flat_map part_items parts.items)) }
-    ensures values { IfOk result (λ p. Gives (F.post f.now) (range_with_len 0 len) (part_items p)) }
+    ensures values { IfOk result (λ p. Gives (F.post filling.now.f.now) (range_with_len 0 filling.now.len) (part_items p)) }
     ensures back { IfErr result (λ v. v.items ≡ parts.items) }
 {
-    fill_parts::<C, U, F, Brand>(crew, workers, len, size, f, parts)
+    fill_parts::<C, U, F, Brand>(crew, workers, filling, parts)
 }
 
 // The part filled with what the function gives for each item, of which the first is there already. Where there is no memory for the board, its
 // values are unknown.
 fn fill_whole<C: Crew, U: Copy + Send + Sync, F: Fn(usize) -> U + Sync>(
     crew: &C,
-    plan: &Plan,
-    len: usize,
-    f: &F,
+    filling: &Filling<'_, F>,
     whole: Part<U>,
     room: Vec<Part<U>>,
 ) -> (Part<U>, Result<(), AllocError>)
-    requires some { (0 < len) × (len < 2 ^ 62) }
-    requires callable { All (F.pre f.now) (range_with_len 0 len) }
-    requires wide { (length (part_items whole) ≡ len) × Fits (type_size U.row) len }
-    requires known { Gives (F.post f.now) (take 1 (range_with_len 0 len)) (take 1 (part_items whole)) }
-    requires room { (room.items ≡ []) × (chunk_count plan.now.chunk len ≤ vec_capacity room) }
+    requires some { (0 < filling.now.len) × (filling.now.len < 2 ^ 62) }
+    requires callable { All (F.pre filling.now.f.now) (range_with_len 0 filling.now.len) }
+    requires wide { (length (part_items whole) ≡ filling.now.len) × Fits (type_size U.row) filling.now.len }
+    requires known { Gives (F.post filling.now.f.now) (take 1 (range_with_len 0 filling.now.len)) (take 1 (part_items whole)) }
+    requires room { (room.items ≡ []) × (chunk_count filling.now.plan.chunk filling.now.len ≤ vec_capacity room) }
     ensures place { SamePlaces whole result.0 }
-    ensures values { IfOk result.1 (λ _. Gives (F.post f.now) (range_with_len 0 len) (part_items result.0)) }
+    ensures values { IfOk result.1 (λ _. Gives (F.post filling.now.f.now) (range_with_len 0 filling.now.len) (part_items result.0)) }
 {
-    let size = plan.chunk;
-    let count = count_chunks(len, size);
+    let plan = filling.plan;
+    let count = count_chunks(filling.len, plan.chunk);
     let workers = (plan.workers as usize).min(count) as u32;
-    let parts = whole.cut_all(size as usize, count, room);
-    match deal_parts(crew, workers, len, size, f, parts) {
+    let parts = whole.cut_all(plan.chunk as usize, count, room);
+    match deal_parts(crew, workers, filling, parts) {
         Ok(filled) => (filled, Ok(())),
         Err(parts) => (Part::glue_all(parts), Err(AllocError)),
     }
@@ -267,89 +265,25 @@ fn begin_list<U: Copy, F: Fn(usize) -> U>(
 // The list made of copies of the first value, and filled in place behind it, each chunk by the worker that draws it.
 fn fill_by_parts<C: Crew, U: Copy + Send + Sync, F: Fn(usize) -> U + Sync>(
     crew: &C,
-    plan: &Plan,
-    len: usize,
-    f: &F,
+    filling: &Filling<'_, F>,
 ) -> Result<Vec<U>, AllocError>
-    requires some { (0 < len) × (len < 2 ^ 62) }
-    requires callable { All (F.pre f.now) (range_with_len 0 len) }
-    ensures { IfOk result (λ v. Gives (F.post f.now) (range_with_len 0 len) v.items) }
+    requires some { (0 < filling.now.len) × (filling.now.len < 2 ^ 62) }
+    requires callable { All (F.pre filling.now.f.now) (range_with_len 0 filling.now.len) }
+    ensures { IfOk result (λ v. Gives (F.post filling.now.f.now) (range_with_len 0 filling.now.len) v.items) }
 {
-    let room = Vec::with_capacity(crew.alloc(), count_chunks(len, plan.chunk))?;
-    let mut out = begin_list(crew.alloc(), len, f)?;
+    let room = Vec::with_capacity(crew.alloc(), count_chunks(filling.len, filling.plan.chunk))?;
+    let mut out = begin_list(crew.alloc(), filling.len, filling.f)?;
     let fill = |whole: Part<U>, room: Vec<Part<U>>| -> (Part<U>, Result<(), AllocError>)
-        requires { ((0 < len) × (len < 2 ^ 62))
-            × All (F.pre f.now) (range_with_len 0 len)
-            × ((length (part_items whole) ≡ len) × Fits (type_size U.row) len)
-            × Gives (F.post f.now) (take 1 (range_with_len 0 len)) (take 1 (part_items whole))
-            × ((room.items ≡ []) × (chunk_count plan.now.chunk len ≤ vec_capacity room)) }
+        requires { ((0 < filling.now.len) × (filling.now.len < 2 ^ 62))
+            × All (F.pre filling.now.f.now) (range_with_len 0 filling.now.len)
+            × ((length (part_items whole) ≡ filling.now.len) × Fits (type_size U.row) filling.now.len)
+            × Gives (F.post filling.now.f.now) (take 1 (range_with_len 0 filling.now.len)) (take 1 (part_items whole))
+            × ((room.items ≡ []) × (chunk_count filling.now.plan.chunk filling.now.len ≤ vec_capacity room)) }
         ensures place { SamePlaces whole result.0 }
-        ensures values { IfOk result.1 (λ _. Gives (F.post f.entry.now) (range_with_len 0 len) (part_items result.0)) }
-    { fill_whole(crew, plan, len, f, whole, room) };
+        ensures values { IfOk result.1 (λ _. Gives (F.post filling.entry.now.f.now) (range_with_len 0 filling.entry.now.len) (part_items result.0)) }
+    { fill_whole(crew, filling, whole, room) };
     with_part(out.as_mut_slice(), room, fill)?;
     Ok(out)
-}
-
-// A list that is made longer, with the values of the places that it gets.
-fn extend_to<U: Copy, F: Fn(usize) -> U>(
-    out: &mut Vec<U>,
-    len: usize,
-    f: &F,
-) -> Result<(), AllocError>
-    requires some { 0 < length out.old.items }
-    requires longer { length out.old.items ≤ len }
-    requires callable { All (F.pre f.now) (range_with_len 0 len) }
-    requires known { Gives (F.post f.now) (range_with_len 0 (length out.old.items)) out.old.items }
-    ensures { IfOk result (λ _. Gives (F.post f.now) (range_with_len 0 len) out.new.items) }
-{
-    let known = out.len();
-    let blank = out[0];
-    out.resize(len, blank)?;
-    fill_behind(out.as_mut_slice(), 0, known, f);
-    Ok(())
-}
-
-// What the function gives for the numbers, chunk by chunk. The first value is there before.
-#[derive(Drop)]
-struct Extending<'a, F> {
-    len: usize,
-    size: u32,
-    f: &'a F,
-}
-
-impl<U: Copy, F: Fn(usize) -> U> InTurn<U> for Extending<'_, F> {
-    ghost use Rattle.std.specs.Prelude.{◌≡◌, ◌*◌, ◌<◌, ◌^◌, All, length, max, min};
-    ghost use Rattle.std.specs.List.{range_with_len};
-    ghost use Rattle.par_passes.specs.Passes.{Gives};
-
-    ghost has = { λ all c filled.
-        ((0 < all.len) × (all.len < 2 ^ 62) × (0 < all.size))
-        × All (F.pre all.f.now) (range_with_len 0 all.len)
-        × (length filled ≡ max (min (c * all.size) all.len) 1)
-        × Gives (F.post all.f.now) (range_with_len 0 (length filled)) filled };
-
-    fn append(&self, c: u64, out: &mut Vec<U>) -> Result<(), AllocError> {
-        extend_to(out, chunk_start(self.len, self.size, c + 1), self.f)
-    }
-}
-
-// All that one worker does alone.
-fn fill_in_turn<C: Crew, U: Copy, F: Fn(usize) -> U>(
-    crew: &C,
-    plan: &Plan,
-    len: usize,
-    f: &F,
-) -> Result<Vec<U>, AllocError>
-    requires some { (0 < len) × (len < 2 ^ 62) }
-    requires callable { All (F.pre f.now) (range_with_len 0 len) }
-    ensures { IfOk result (λ v. Gives (F.post f.now) (range_with_len 0 len) v.items) }
-{
-    let first = f(0);
-    let size = plan.chunk;
-    let mut out = Vec::with_capacity(crew.alloc(), len)?;
-    out.push(first)?;
-    let extending = Extending { len, size, f };
-    in_turn(crew, count_chunks(len, size), out, &extending)
 }
 
 /// What the function gives for the number of each place, by one call each.
@@ -367,8 +301,5 @@ pub(crate) fn fill_by_number<C: Crew, U: Copy + Send + Sync, F: Fn(usize) -> U +
         return Ok(Vec::new(crew.alloc()));
     }
     let plan = crew.plan();
-    if plan.workers == 1 || len <= plan.chunk as usize {
-        return fill_in_turn(crew, &plan, len, f);
-    }
-    fill_by_parts(crew, &plan, len, f)
+    fill_by_parts(crew, &Filling { plan, len, f })
 }

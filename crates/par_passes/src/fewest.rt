@@ -47,63 +47,6 @@ fn least_of_chunk<F: Fn(usize) -> u64, K: Lifted<usize>>(
     least_between::<F, K>(f, from, (len - from).min(size as usize))
 }
 
-// All that one worker does: it offers the least key of each chunk that it draws. `tell` is told of each claim.
-fn offer_chunks<F: Fn(usize) -> u64, K: Lifted<usize>, G: Fn(Option<u64>)>(
-    word: &LeastWord,
-    claims: &ClaimBoard,
-    seat: &mut LeastSeat,
-    mine: &mut Seat,
-    size: u32,
-    tell: &G,
-    len: usize,
-    f: &F,
-)
-    requires told { G.IsAlwaysCallable tell.now }
-    requires boards { (seat.old.board ≡ word.now.board) × (mine.old.board ≡ claims.now.board) }
-    requires unspent { 0 < mine.old.view.share }
-    requires len { len < 2 ^ 62 }
-    requires callable { All (F.pre f.now) (range_with_len 0 len) }
-    requires lifts { All (λ k. (r : ℕ) → F.post f.now k r → r ≡ K.code_of k) (range_with_len 0 len) }
-    requires offers { Offers size (map K.code_of (range_with_len 0 len)) mine.old.view.claimed seat.old.view.offered }
-    ensures boards { (seat.new.board ≡ seat.old.board) × (mine.new.board ≡ mine.old.board) }
-    ensures shares { (seat.new.view.share ≡ seat.old.view.share) × (mine.new.view.weight ≡ mine.old.view.weight) }
-    ensures spent { mine.new.view.share ≡ 0 }
-    ensures offers { Offers size (map K.code_of (range_with_len 0 len)) mine.new.view.claimed seat.new.view.offered }
-{
-    while let Some(c) = claims.claim(mine) {
-        tell(Some(c));
-        word.offer(seat, least_of_chunk::<F, K>(f, len, size, c));
-    }
-    tell(None);
-}
-
-// Two teams are one.
-fn merge<K: Lifted<usize>>(
-    word: &LeastWord,
-    claims: &ClaimBoard,
-    size: u32,
-    len: usize,
-    rest: u32,
-    half: u32,
-    one: Team,
-    two: Team,
-) -> Team
-    requires one { IsDone size (map K.code_of (range_with_len 0 len)) word.now.board claims.now.board rest one }
-    requires two { IsDone size (map K.code_of (range_with_len 0 len)) word.now.board claims.now.board half two }
-    ensures { IsDone size (map K.code_of (range_with_len 0 len)) word.now.board claims.now.board (rest + half) result }
-{
-    // The contract alone speaks of these.
-    let _ = (size, len, rest, half);
-    let Team { mut seat, mut mine } = one;
-    let Team {
-        seat: other,
-        mine: theirs,
-    } = two;
-    word.join(&mut seat, other);
-    claims.join(&mut mine, theirs);
-    Team { seat, mine }
-}
-
 // The workers of a search for the least key: each offers the least key of each chunk that it draws. K names the keys.
 #[derive(Drop)]
 struct Offering<'a, C, F, K> {
@@ -114,6 +57,58 @@ struct Offering<'a, C, F, K> {
     len: usize,
     f: &'a F,
     keys: PhantomData<K>,
+}
+
+// All that one worker does: it offers the least key of each chunk that it draws. `tell` is told of each claim.
+fn offer_chunks<C, F: Fn(usize) -> u64, K: Lifted<usize>, G: Fn(Option<u64>)>(
+    offering: &Offering<'_, C, F, K>,
+    team: Team,
+    tell: &G,
+) -> Team
+    requires told { G.IsAlwaysCallable tell.now }
+    requires boards { (team.seat.board ≡ offering.now.word.now.board) × (team.mine.board ≡ offering.now.claims.now.board) }
+    requires unspent { 0 < team.mine.view.share }
+    requires len { offering.now.len < 2 ^ 62 }
+    requires callable { All (F.pre offering.now.f.now) (range_with_len 0 offering.now.len) }
+    requires lifts { All (λ k. (r : ℕ) → F.post offering.now.f.now k r → r ≡ K.code_of k) (range_with_len 0 offering.now.len) }
+    requires offers { Offers offering.now.size (map K.code_of (range_with_len 0 offering.now.len)) team.mine.view.claimed team.seat.view.offered }
+    ensures boards { (result.seat.board ≡ team.seat.board) × (result.mine.board ≡ team.mine.board) }
+    ensures shares { (result.seat.view.share ≡ team.seat.view.share) × (result.mine.view.weight ≡ team.mine.view.weight) }
+    ensures spent { result.mine.view.share ≡ 0 }
+    ensures offers { Offers offering.now.size (map K.code_of (range_with_len 0 offering.now.len)) result.mine.view.claimed result.seat.view.offered }
+{
+    let Team { mut seat, mut mine } = team;
+    while let Some(c) = offering.claims.claim(&mut mine) {
+        tell(Some(c));
+        let least = least_of_chunk::<F, K>(offering.f, offering.len, offering.size, c);
+        offering.word.offer(&mut seat, least);
+    }
+    tell(None);
+    Team { seat, mine }
+}
+
+// Two teams are one.
+fn merge<C, F, K: Lifted<usize>>(
+    offering: &Offering<'_, C, F, K>,
+    rest: u32,
+    half: u32,
+    one: Team,
+    two: Team,
+) -> Team
+    requires one { IsDone offering.now.size (map K.code_of (range_with_len 0 offering.now.len)) offering.now.word.now.board offering.now.claims.now.board rest one }
+    requires two { IsDone offering.now.size (map K.code_of (range_with_len 0 offering.now.len)) offering.now.word.now.board offering.now.claims.now.board half two }
+    ensures { IsDone offering.now.size (map K.code_of (range_with_len 0 offering.now.len)) offering.now.word.now.board offering.now.claims.now.board (rest + half) result }
+{
+    // The contract alone speaks of these.
+    let _ = (rest, half);
+    let Team { mut seat, mut mine } = one;
+    let Team {
+        seat: other,
+        mine: theirs,
+    } = two;
+    offering.word.join(&mut seat, other);
+    offering.claims.join(&mut mine, theirs);
+    Team { seat, mine }
 }
 
 impl<C: Crew, F: Fn(usize) -> u64 + Sync, K: Lifted<usize> + Send + Sync> Task
@@ -148,32 +143,12 @@ impl<C: Crew, F: Fn(usize) -> u64 + Sync, K: Lifted<usize> + Send + Sync> Task
     }
 
     fn work(&self, team: Team, worker: u32) -> Team {
-        let Team { mut seat, mut mine } = team;
         let tell = |chunk: Option<u64>| self.crew.gate().after_claim(worker, chunk);
-        offer_chunks::<F, K, _>(
-            self.word,
-            self.claims,
-            &mut seat,
-            &mut mine,
-            self.size,
-            &tell,
-            self.len,
-            self.f,
-        );
-        Team { seat, mine }
+        offer_chunks(self, team, &tell)
     }
 
     fn merge(&self, rest: u32, half: u32, one: Team, two: Team) -> Team {
-        merge::<K>(
-            self.word,
-            self.claims,
-            self.size,
-            self.len,
-            rest,
-            half,
-            one,
-            two,
-        )
+        merge(self, rest, half, one, two)
     }
 }
 

@@ -1,52 +1,32 @@
 //! Passes over the numbers of items: their places, and values made from numbers.
-ghost use Rattle.std.specs.Prelude.{◌≡◌, ℕ, ◌+◌, ◌-◌, ◌<◌, ◌≤◌, ◌^◌, ◌++◌, min, Bool, List, length, All, map, filter, IfOk};
+ghost use Rattle.std.specs.Prelude.{◌≡◌, ℕ, ◌+◌, ◌-◌, ◌<◌, ◌≤◌, ◌^◌, min, Bool, List, length, All, map, filter, IfOk};
 ghost use Rattle.std.specs.List.{range_with_len};
 ghost use Rattle.chunk_seats.specs.Chunks.{chunk_of};
 ghost use Rattle.par_passes.specs.Passes.{GaveAt, Gives, marked};
 
 use crate::crew::by_chunks;
 use crate::dealt::fill_by_number;
-use crate::in_turn::{InTurn, in_turn};
 use crate::marked::push_if;
-use chunk_seats::{Crew, Plan};
+use chunk_seats::Crew;
 use std::alloc::{AllocError, Global};
 use worker_teams::{chunk_start, count_chunks};
 
-// Those of so many numbers, from one on, for which the function says true, right behind what is in the list.
-fn choose_onto<F: Fn(usize) -> bool>(
+// Those of so many numbers, from one on, for which the function says true.
+fn choose_between<F: Fn(usize) -> bool>(
+    alloc: Global,
     from: usize,
     count: usize,
     f: &F,
-    out: &mut Vec<u32>,
-) -> Result<(), AllocError>
+) -> Result<Vec<u32>, AllocError>
     requires room { from + count ≤ 2 ^ 32 }
     requires callable { All (F.pre f.now) (range_with_len from count) }
-    ensures { IfOk result (λ _. (g : ℕ → Bool) →
-        All (λ k. (r : Bool) → F.post f.now k r → r ≡ g k) (range_with_len from count) →
-        out.new.items ≡ out.old.items ++ filter g (range_with_len from count)) }
+    ensures { IfOk result (λ v. (g : ℕ → Bool) → All (λ k. (r : Bool) → F.post f.now k r → r ≡ g k) (range_with_len from count) → v.items ≡ filter g (range_with_len from count)) }
 {
+    let mut out = Vec::with_capacity(alloc, count)?;
     for i in 0..count {
-        push_if(f(from + i), (from + i) as u32, out)?;
+        push_if(f(from + i), (from + i) as u32, &mut out)?;
     }
-    Ok(())
-}
-
-// The same for a chunk of the numbers.
-fn choose_chunk_onto<F: Fn(usize) -> bool>(
-    len: usize,
-    size: u32,
-    c: u64,
-    f: &F,
-    out: &mut Vec<u32>,
-) -> Result<(), AllocError>
-    requires len { len ≤ 2 ^ 32 }
-    requires callable { All (F.pre f.now) (range_with_len 0 len) }
-    ensures { IfOk result (λ _. (g : ℕ → Bool) →
-        All (λ k. (r : Bool) → F.post f.now k r → r ≡ g k) (range_with_len 0 len) →
-        out.new.items ≡ out.old.items ++ filter g (chunk_of size (range_with_len 0 len) c)) }
-{
-    let from = chunk_start(len, size, c);
-    choose_onto(from, (len - from).min(size as usize), f, out)
+    Ok(out)
 }
 
 // The numbers of one chunk.
@@ -61,48 +41,8 @@ fn choose_chunk<F: Fn(usize) -> bool>(
     requires callable { All (F.pre f.now) (range_with_len 0 len) }
     ensures { IfOk result (λ v. (g : ℕ → Bool) → All (λ k. (r : Bool) → F.post f.now k r → r ≡ g k) (range_with_len 0 len) → v.items ≡ filter g (chunk_of size (range_with_len 0 len) c)) }
 {
-    let mut out = Vec::with_capacity(alloc, size as usize)?;
-    choose_chunk_onto(len, size, c, f, &mut out)?;
-    Ok(out)
-}
-
-// The numbers for which the function says true, chunk by chunk.
-#[derive(Drop)]
-struct Choosing<'a, F> {
-    len: usize,
-    size: u32,
-    f: &'a F,
-}
-
-impl<F: Fn(usize) -> bool> InTurn<u32> for Choosing<'_, F> {
-    ghost use Rattle.std.specs.Prelude.{◌≡◌, ◌≤◌, ◌*◌, ◌^◌, ℕ, Bool, All, filter, take};
-    ghost use Rattle.std.specs.List.{range_with_len};
-
-    ghost has = { λ all c chosen.
-        (all.len ≤ 2 ^ 32)
-        × All (F.pre all.f.now) (range_with_len 0 all.len)
-        × ((g : ℕ → Bool) → All (λ k. (r : Bool) → F.post all.f.now k r → r ≡ g k) (range_with_len 0 all.len) → chosen ≡ filter g (take (c * all.size) (range_with_len 0 all.len))) };
-
-    fn append(&self, c: u64, out: &mut Vec<u32>) -> Result<(), AllocError> {
-        choose_chunk_onto(self.len, self.size, c, self.f, out)
-    }
-}
-
-// All that one worker does alone.
-fn choose_in_turn<C: Crew, F: Fn(usize) -> bool>(
-    crew: &C,
-    plan: &Plan,
-    len: usize,
-    f: &F,
-) -> Result<Vec<u32>, AllocError>
-    requires len { len ≤ 2 ^ 32 }
-    requires callable { All (F.pre f.now) (range_with_len 0 len) }
-    ensures { IfOk result (λ v. (g : ℕ → Bool) → All (λ k. (r : Bool) → F.post f.now k r → r ≡ g k) (range_with_len 0 len) → v.items ≡ filter g (range_with_len 0 len)) }
-{
-    let size = plan.chunk;
-    let out = Vec::with_capacity(crew.alloc(), len)?;
-    let choosing = Choosing { len, size, f };
-    in_turn(crew, count_chunks(len, size), out, &choosing)
+    let from = chunk_start(len, size, c);
+    choose_between(alloc, from, (len - from).min(size as usize), f)
 }
 
 // The numbers below a length for which the function says true, in order.
@@ -115,11 +55,7 @@ fn choose<C: Crew, F: Fn(usize) -> bool + Sync>(
     requires callable { All (F.pre f.now) (range_with_len 0 len) }
     ensures { IfOk result (λ v. (g : ℕ → Bool) → All (λ k. (r : Bool) → F.post f.now k r → r ≡ g k) (range_with_len 0 len) → v.items ≡ filter g (range_with_len 0 len)) }
 {
-    let plan = crew.plan();
-    let size = plan.chunk;
-    if plan.workers == 1 || len <= size as usize {
-        return choose_in_turn(crew, &plan, len, f);
-    }
+    let size = crew.plan().chunk;
     let alloc = crew.alloc();
     let make = |c: u64| -> Result<Vec<u32>, AllocError>
         requires { (len ≤ 2 ^ 32) × All (F.pre f.now) (range_with_len 0 len) }

@@ -5,6 +5,7 @@ ghost use Rattle.std.specs.List.{range_with_len, zip};
 ghost use Rattle.word_monoid.specs.Folds.{prefixes};
 ghost use Rattle.word_monoid.specs.Monoid.{IsItem};
 ghost use Rattle.scatter_rows.specs.Scattered.{AreDistinct, IsScattered};
+ghost use Rattle.scatter_rows.specs.Starts.{AreStarts};
 ghost use Rattle.par_passes.specs.Passes.{Gives, marked};
 
 use crate::bundles::bundles;
@@ -17,7 +18,7 @@ use crate::order::sorted;
 use crate::places::gather;
 use chunk_seats::{Crew, Gate, Workers};
 use scan_lookback::{Lift, Lifted, scan, scan_lifted};
-use scatter_rows::scatter;
+use scatter_rows::{Parts, scatter, scatter_parts};
 use std::alloc::AllocError;
 use std::thread::Threads;
 use word_monoid::WordMonoid;
@@ -206,6 +207,23 @@ pub trait Passes: Crew {
         ensures { IfOk result (λ v. Gives (λ c b. F.post make.now c (Ok b)) (range_with_len 0 count) v.items) }
     {
         bundles(self, count, make)
+    }
+
+    /// What is made of each number, one list behind the other, written at places that are known before: what is made of the number c begins at
+    /// place `starts[c]`, and the last of the starts says how many values there are. Workers draw the numbers, and put what they make into the words
+    /// of one shared table. K names the parts; the call passes `Brand` and picks it.
+    final fn scatter_parts<F: Fn(u64) -> Result<Vec<u32>, AllocError> + Sync, K: Parts>(
+        &self,
+        starts: &[u32],
+        make: &F,
+    ) -> Result<Vec<u32>, AllocError>
+        requires count { length starts.now < 2 ^ 62 }
+        requires starts { AreStarts K.part starts.now }
+        requires callable { All (F.pre make.now) (range_with_len 0 (length starts.now - 1)) }
+        requires parts { (c : ℕ) (x : Vec ℕ) → c < length starts.now - 1 → F.post make.now c (Ok x) → x.items ≡ K.part c }
+        ensures { IfOk result (λ v. v.items ≡ flat_map K.part (range_with_len 0 (length starts.now - 1))) }
+    {
+        scatter_parts::<Self, F, K>(self, starts, make)
     }
 
     /// The list of `len` cells in which each place holds its value, and every other cell 0.

@@ -162,6 +162,27 @@ pub(crate) fn doubled(crew: &impl Passes, xs: &[u64]) -> Result<Vec<u64>, AllocE
     crew.by_chunks(xs.len(), xs.len().saturating_mul(2), &pair)
 }
 
+// The half of each number.
+fn half_numbers(crew: &impl Passes, count: u32) -> Result<Vec<u32>, AllocError>
+    ensures { IfOk result (λ v. v.items ≡ map (λ k. k / 2) (range_with_len 0 count)) }
+{
+    crew.tabulate(count, &|k: u32| k / 2)
+}
+
+// The items at odd places: a list of one or none for each number, each written from a place on that is known before.
+pub(crate) fn at_odd(crew: &impl Passes, xs: &[u32]) -> Result<Vec<u32>, AllocError>
+    requires len { length xs.now < 2 ^ 32 - 1 }
+    ensures { IfOk result (λ v. v.items ≡ flat_map (λ k. replicate (k % 2) (slice_index xs.now k)) (range_with_len 0 (length xs.now))) }
+{
+    let starts = half_numbers(crew, xs.len() as u32 + 1)?;
+    let alloc = crew.alloc();
+    let part = |k: u64| -> Result<Vec<u32>, AllocError>
+        requires { k < length xs.now }
+        ensures { IfOk result (λ v. v.items ≡ replicate (k % 2) (slice_index xs.entry.now k)) }
+    { copies(alloc, xs[k as usize], (k % 2) as usize) };
+    crew.scatter_parts::<_, Brand>(starts.as_slice(), &part)
+}
+
 // Items in an order of their own.
 pub(crate) fn in_order(
     crew: &impl Passes,

@@ -11,7 +11,7 @@ pub(crate) const OVER_ITEMS: u32 = 5;
 
 pub(crate) const ONE_PASS: u32 = 13;
 
-pub(crate) const ALL: u32 = 18;
+pub(crate) const ALL: u32 = 19;
 
 fn maps(crew: &impl Passes, n: usize) -> Result<bool, AllocError>
     requires { n ≤ 3 }
@@ -143,6 +143,13 @@ fn classifies(crew: &impl Passes, n: usize) -> Result<bool, AllocError>
     Ok(class.as_slice() == &[3; 3][..n])
 }
 
+fn scatters_parts(crew: &impl Passes, n: usize) -> Result<bool, AllocError>
+    requires { n ≤ 3 }
+{
+    let odd = at_odd(crew, &[5, 6, 7][..n])?;
+    Ok(odd.as_slice() == &[6][..n / 2])
+}
+
 // Whether an example has its answer.
 pub(crate) fn is_right(crew: &impl Passes, example: u32, n: usize) -> Result<bool, AllocError>
     requires { n ≤ 3 }
@@ -165,6 +172,7 @@ pub(crate) fn is_right(crew: &impl Passes, example: u32, n: usize) -> Result<boo
         14 => keeps_large(crew, n),
         15 => finds_lowest(crew, n),
         16 => lowers(crew, n),
-        _ => classifies(crew, n),
+        17 => classifies(crew, n),
+        _ => scatters_parts(crew, n),
     }
 }

@@ -91,3 +91,10 @@ fn two_workers_meet(rt: HostRuntime) -> Result<(), Fail> {
     }
     Ok(())
 }
+
+#[test]
+fn two_workers_scatter_parts(rt: HostRuntime) -> Result<(), Fail> {
+    // The starts are a pass of their own.
+    assert_eq!(rt; met(&rt, rt.alloc(), ALL - 1)?, (2, 0));
+    Ok(())
+}

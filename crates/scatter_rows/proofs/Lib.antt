@@ -1,3 +1,4 @@
 pub mod Putting
 pub mod Covering
 pub mod Placing
+pub mod Standing

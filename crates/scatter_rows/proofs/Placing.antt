@@ -1,9 +1,8 @@
 -- There is one list at most in which each place holds its value, and every other cell 0.
-use Rattle.std.proofs.Common.{◌≡◌, ◌≢◌, ◌⊎◌, ℕ, zero, suc, ◌<◌, List, [], ◌∷◌, length, get_or, sym, ◌∙◌, subst, ⊎_elim, arith, inl, inr}
-use Rattle.std.proofs.lemmas.List.{ext_get_or}
+use Rattle.std.proofs.Common.{◌≡◌, ◌≢◌, ◌⊎◌, ℕ, zero, suc, ◌<◌, List, [], ◌∷◌, length, get_or, ⊎_elim, arith, inl, inr}
 use mathlib.Core.Logic.{dite}
 use native.Mathlib.Decide.{ℕ_discrete}
-use Rattle.scatter_rows.specs.Scattered.{IsFree, IsScattered}
+use Rattle.scatter_rows.specs.Scattered.{IsFree}
 
 free_of_more : (p : ℕ) (ps : List ℕ) (c : ℕ) → p ≢ c → IsFree ps c → IsFree (p ∷ ps) c
 free_of_more p ps c ne free zero h = ne

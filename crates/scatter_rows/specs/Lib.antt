@@ -1,4 +1,5 @@
 pub mod Scattered
+pub mod Starts
 pub mod Rule
 pub mod Held
 pub mod Worked

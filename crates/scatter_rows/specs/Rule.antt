@@ -27,17 +27,17 @@ Putter = Me (Unit {0}) PutView
 abbrev pub Puts : ℕ → Step (Unit {0}) → Putter → ℕ → Putter → Type 0
 Puts i st m r m' = (m'.1 ≡ m.1) × (m'.0 ≡ putting m.0 i)
 
-module _ (places values : List ℕ) where
-  -- the word of a cell is 0, or the value of its place plus 1. So it is 0 where the cell is no place
-  abbrev pub IsCell : ℕ → ℕ → Type 0
-  IsCell cell word = (word ≡ 0) ⊎ ((i : ℕ) × (i < length places) × (slice_index places i ≡ cell) × (word ≡ slice_index values i + 1))
+-- the cells of the pairs that the seat has put aren't 0
+abbrev pub HasPut : List ℕ → List ℕ → PutView → Type 0
+HasPut places words v = (i : ℕ) → 0 < times i v.put → (i < length places) × (0 < slice_index words (slice_index places i))
 
-  -- the cells of the pairs that the seat has put aren't 0
-  abbrev pub HasPut : List ℕ → PutView → Type 0
-  HasPut words v = (i : ℕ) → 0 < times i v.put → (i < length places) × (0 < slice_index words (slice_index places i))
+module _ (places values : List ℕ) (limit : ℕ) where
+  -- the word of a cell is 0, or the value of its place plus 1, which is below the limit. So it is 0 where the cell is no place
+  abbrev pub IsCell : ℕ → ℕ → Type 0
+  IsCell cell word = (word ≡ 0) ⊎ ((i : ℕ) × (i < length places) × (slice_index places i ≡ cell) × (word ≡ slice_index values i + 1) × (slice_index values i < limit))
 
   pub record Celled (seats : ℕ) (s : State (Unit {0}) PutView) : Type 0 where
     pub inside : (i : ℕ) → i < length places → slice_index places i < length s.words
     pub cells : (c : ℕ) → IsCell c (slice_index s.words c)
     pub shared : total (λ v. v.share) s.views ≡ seats
-    pub each : Every (HasPut s.words) s.views
+    pub each : Every (HasPut places s.words) s.views

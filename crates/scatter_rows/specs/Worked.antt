@@ -9,14 +9,15 @@ pub record AreFit (words : ℕ) (places values : List ℕ) : Type 0 where
   pub inside : (i : ℕ) → i < length places → slice_index places i < words
   pub small : (i : ℕ) → i < length places → slice_index values i < 2 ^ 64 - 1
 
--- so many items are cut into so many chunks of that size, of which the last may be shorter
-pub record IsCut (count size chunks : ℕ) : Type 0 where
-  pub inside : (c : ℕ) → c < chunks → c * size < count
-  pub all : count ≤ chunks * size
+-- of so many items, which are cut into chunks of that size, the chunk c has the item i
+pub record IsOf (size count c i : ℕ) : Type 0 where
+  pub from : c * size ≤ i
+  pub to : i < c * size + size
+  pub inside : i < count
 
--- the pairs of the claimed chunks have been put
-abbrev pub Covers : ℕ → ℕ → List ℕ → List ℕ → Type 0
-Covers count size claimed put = (c i : ℕ) → 0 < times c claimed → c * size ≤ i → i < c * size + size → i < count → 0 < times i put
+-- the pairs that the claimed chunks have were put
+abbrev pub Covers : (ℕ → ℕ → Type 0) → List ℕ → List ℕ → Type 0
+Covers has claimed put = (c i : ℕ) → 0 < times c claimed → has c i → 0 < times i put
 
 -- the values of the first n pairs are in their cells, and 0 is at each cell that is no place
 pub record HaveBeenPut (places values : List ℕ) (n words : ℕ) (cells : List ℕ) : Type 0 where

@@ -1,10 +1,11 @@
 //! A table with a word for each cell, into which workers put values.
-ghost use Rattle.std.specs.Prelude.{◌≡◌, ℕ, ◌-◌, ◌^◌, ◌<◌, ◌≤◌, length, slice_index, IfOk, replicate, EachIndex};
+ghost use Rattle.std.specs.Prelude.{◌≡◌, ℕ, ◌-◌, ◌^◌, ◌<◌, ◌≤◌, length, map, slice_index, IfOk, replicate, EachIndex};
+ghost use Rattle.std.specs.List.{range_with_len};
 ghost use Rattle.std.specs.Mem.Slots.{slots_items, slots_len, IsFull};
 ghost use Rattle.scatter_rows.specs.Scattered.{AreDistinct};
 ghost use Rattle.scatter_rows.specs.Rule.{idle, putting, parting, uniting};
 ghost use Rattle.scatter_rows.specs.Held.{held};
-ghost use Rattle.scatter_rows.specs.Worked.{AreFit, IsReadOut};
+ghost use Rattle.scatter_rows.specs.Worked.{IsReadOut};
 
 use crate::views::{Pairs, PutView};
 use atomic_table::{Closed, Join, Play, Split, Table, TableRule};
@@ -19,7 +20,7 @@ struct Celling<N> {
 impl<N: Pairs> TableRule<(), PutView, u64> for Celling<N> {
     ghost use Rattle.scatter_rows.specs.Rule.{Celled, idle};
 
-    ghost holds = { Celled N.places N.values };
+    ghost holds = { Celled N.places N.values N.limit };
 
     ghost first = { idle };
 }
@@ -63,14 +64,14 @@ pub(crate) struct Cells<N: Pairs> {
 }
 
 impl<N: Pairs> Model for Cells<N> {
-    ghost use Rattle.std.specs.Prelude.{◌≡◌};
+    ghost use Rattle.std.specs.Prelude.{◌≡◌, ◌<◌, ◌^◌};
     ghost use Rattle.scatter_rows.specs.Held.{Board};
 
     ghost Value = { Board };
 
     ghost view = { λ b. record { board = b.table.shared.table_id; seats = b.table.shared.key } };
 
-    ghost invariant = { λ b. b.table.shared.table_id.slots ≡ 0 };
+    ghost invariant = { λ b. (b.table.shared.table_id.slots ≡ 0) × (N.limit < 2 ^ 64) };
 }
 
 /// What a worker puts with.
@@ -101,6 +102,24 @@ fn read_out(closed: &Closed<(), Global>, out: &mut [u64])
     }
 }
 
+// The same as a list.
+fn list_values(
+    alloc: Global,
+    closed: &Closed<(), Global>,
+    len: usize,
+) -> Result<Vec<u32>, AllocError>
+    requires wide { len ≡ slots_len closed.now.words }
+    requires full { IsFull closed.now.words }
+    requires narrow { (k : ℕ) → slice_index (slots_items closed.now.words) k ≤ 2 ^ 32 }
+    ensures { IfOk result (λ v. v.items ≡ map (λ k. slice_index (slots_items closed.now.words) k - 1) (range_with_len 0 len)) }
+{
+    let mut list = Vec::with_capacity(alloc, len)?;
+    for c in 0..len {
+        list.push(closed.word(c).saturating_sub(1) as u32)?;
+    }
+    Ok(list)
+}
+
 impl<N: Pairs> Cells<N> {
     /// Cells with these words, all of them 0, and the first seat, which stands for all.
     pub(crate) fn new(
@@ -109,7 +128,8 @@ impl<N: Pairs> Cells<N> {
         seats: u32,
     ) -> Result<(Cells<N>, Seat), AllocError>
         requires blank { words.now ≡ replicate (length words.now) 0 }
-        requires fit { AreFit (length words.now) N.places N.values }
+        requires inside { (i : ℕ) → i < length N.places → slice_index N.places i < length words.now }
+        requires limit { N.limit < 2 ^ 64 }
         ensures { IfOk result (λ r. (r.0.board.words ≡ length words.now) × (r.0.seats ≡ seats) × (r.1 ≡ held r.0.board (idle seats))) }
     {
         let (table, token) = Table::of_words(alloc, words, &u64::from(seats))?;
@@ -121,7 +141,7 @@ impl<N: Pairs> Cells<N> {
         requires board { seat.old.board ≡ self.now.board }
         requires pair { (i < length N.places) × (slice_index N.places i ≡ place) × (slice_index N.values i ≡ value) }
         requires inside { place < self.now.board.words }
-        requires small { value < 2 ^ 64 - 1 }
+        requires small { value < N.limit }
         ensures { seat.new ≡ held seat.old.board (putting seat.old.view i) }
     {
         // The contract alone speaks of it.
@@ -136,7 +156,7 @@ impl<N: Pairs> Cells<N> {
         requires board { seat.old.board ≡ self.now.board }
         requires pair { (i < length N.places) × (slice_index N.places i ≡ place) × (slice_index N.values i ≡ value) }
         requires inside { place < self.now.board.words }
-        requires small { value < 2 ^ 64 - 1 }
+        requires small { value < N.limit }
         ensures { seat.new ≡ held seat.old.board (putting seat.old.view i) }
     {
         self.put_told::<Brand>(seat, i, place, value);
@@ -188,5 +208,26 @@ impl<N: Pairs> Cells<N> {
         let closed = table.close_with(token);
         read_out(&closed, out);
         closed.free();
+    }
+
+    /// Takes the table apart, and lists the values.
+    pub(crate) fn into_list(
+        self,
+        alloc: Global,
+        seat: Seat,
+        len: usize,
+    ) -> Result<Vec<u32>, AllocError>
+        requires board { seat.board ≡ self.board }
+        requires wide { len ≡ self.board.words }
+        requires narrow { N.limit ≤ 2 ^ 32 }
+        requires distinct { AreDistinct N.places }
+        ensures { IfOk result (λ v. (length v.items ≡ len) × IsReadOut N.places N.values seat.view.put v.items) }
+    {
+        let Seat { token } = seat;
+        let Cells { table } = self;
+        let closed = table.close_with(token);
+        let list = list_values(alloc, &closed, len);
+        closed.free();
+        list
     }
 }

@@ -3,9 +3,11 @@
 
 mod alone;
 mod at_places;
+mod at_starts;
 mod cells;
+mod chunked;
 mod team;
 mod views;
-mod work;
 
 pub use at_places::{scatter, scatter_is_unique};
+pub use at_starts::{Parts, scatter_parts};

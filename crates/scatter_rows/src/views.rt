@@ -8,13 +8,15 @@ pub(crate) struct PutView {
     pub share: u64,
 }
 
-/// The places and the values of a call. Nothing holds them, each call picks them.
+/// The places and the values of a call, and a number that is above each value that is put. Nothing holds them, each call picks them.
 pub(crate) trait Pairs {
     ghost use Rattle.std.specs.Prelude.{ℕ, List};
 
     ghost places: { List ℕ };
 
     ghost values: { List ℕ };
+
+    ghost limit: { ℕ };
 }
 
 impl Pairs for Brand {
@@ -23,4 +25,6 @@ impl Pairs for Brand {
     ghost places = { [] };
 
     ghost values = { [] };
+
+    ghost limit = { 0 };
 }

@@ -6,7 +6,7 @@ use Rattle.std.proofs.lemmas.List.FromFn.{length-range_with_len, get_or-range_wi
 use Rattle.chunk_seats.specs.Chunks.{chunk_of, chunk_count}
 use Rattle.par_passes.specs.Passes.{GaveAt, Gives, Maps}
 use Rattle.par_passes.specs.Laws.Together.{together}
-use Rattle.par_passes.specs.Laws.Marking.{range_chunk, take_range, length_chunk}
+use Rattle.par_passes.specs.Laws.Marking.{range_chunk, length_chunk}
 
 module _ {T U : Type 0} (post : T → U → Type 0) where
   pub gives_none : Gives post [] []
@@ -119,20 +119,6 @@ module _ {U : Type 0} (post : ℕ → U → Type 0) where
       let m : length (range_with_len 0 n) ≡ n = length-range_with_len 0 n in
       first_copy post (range_with_len 0 n) n 0 y out (omega (arith, m)) (sym m) (sym (get_or-range_with_len 0 n 0 0 some)) gave is
 
-  -- the values that are known of a list that is made longer
-  pub known_kept : (old out more : List U) (known n : ℕ) → known ≡ length old → length old ≤ n → length out ≡ n → out ≡ take n old ++ more
-      → Gives post (range_with_len 0 (length old)) old → Gives post (take known (range_with_len 0 (length out))) (take known out)
-  known_kept old out more known n count longer wide is all =
-      let m : min known (length out) ≡ length old = omega arith in
-      let numbers : take known (range_with_len 0 (length out)) ≡ range_with_len 0 (length old) = take_range known 0 (length out) ∙ ap (range_with_len 0) m in
-      let values : take known out ≡ old =
-      (λ i. take (count i) (is i)) ∙ (ap (λ l. take (length old) (l ++ more)) (take_all n old longer) ∙ front old more) in
-      subst (λ l. Gives post l (take known out)) (sym numbers) (subst (Gives post (range_with_len 0 (length old))) (sym values) all)
-    where
-      front : (xs ys : List U) → take (length xs) (xs ++ ys) ≡ xs
-      front [] ys = refl
-      front (x ∷ xs) ys = ap (λ l. x ∷ l) (front xs ys)
-
 -- what holds of all numbers in a range, number by number
 pub number_from : (P : ℕ → Type 0) (from n k : ℕ) → k < n → All P (range_with_len from n) → P (from + k)
 number_from P from n k less all = let m : length (range_with_len from n) ≡ n = length-range_with_len from n in subst P (get_or-range_with_len from n k 0 less) (all k 0 (omega (arith, m)))
@@ -145,9 +131,6 @@ all_numbers P n all = λ k d h.
     let m : length (range_with_len 0 n) ≡ n = length-range_with_len 0 n in
     let less : k < n = omega arith in
     subst P (sym (get_or-range_with_len 0 n k d less)) (all (0 + k) (omega arith))
-
-pub numbers_front : (P : ℕ → Type 0) (m n : ℕ) → m ≤ n → All P (range_with_len 0 n) → All P (range_with_len 0 m)
-numbers_front P m n front all = all_numbers P m (λ k less. each_number P n all k (omega arith))
 
 -- what calls gave for the numbers of items, they gave for the items
 pub gives_by_number : {T U : Type 0} (post : T → U → Type 0) (items : List T) (out : List U) → Gives (GaveAt post items) (range_with_len 0 (length items)) out → Gives post items out

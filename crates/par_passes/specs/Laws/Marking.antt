@@ -1,10 +1,10 @@
--- Marked items and numbers, item by item and chunk by chunk.
-use Rattle.std.proofs.Common.{◌≡◌, ℕ, zero, suc, ◌+◌, ◌-◌, ◌*◌, ◌<◌, min, Bool, true, false, cond, List, [], ◌∷◌, ◌++◌, length, get_or, take, drop, map, filter, refl, sym, ap, ◌∙◌, arith, add-one, suc-mul, take-add, append_assoc}
+-- Marked items one by one, and chunks of lists and of numbers.
+use Rattle.std.proofs.Common.{◌≡◌, ℕ, zero, suc, ◌+◌, ◌-◌, ◌*◌, ◌<◌, min, Bool, true, false, cond, List, [], ◌∷◌, ◌++◌, length, get_or, take, drop, map, filter, refl, sym, ap, ◌∙◌, arith}
 use Rattle.std.specs.List.{range_with_len, zip}
 use Rattle.std.proofs.lemmas.List.{take_more, take-map, drop-map, length-take, length-drop}
-use Rattle.chunk_seats.specs.Chunks.{chunk_of, chunk_count}
+use Rattle.chunk_seats.specs.Chunks.{chunk_of}
 use Rattle.par_passes.specs.Passes.{marked}
-use Rattle.par_passes.specs.Laws.Together.{kept_parts, whole_list}
+use Rattle.par_passes.specs.Laws.Together.{kept_parts}
 
 module _ {X : Type 0} where
   zip_append : (xs ys : List X) (ms ns : List Bool) → length ms ≡ length xs → zip (xs ++ ys) (ms ++ ns) ≡ zip xs ms ++ zip ys ns
@@ -24,17 +24,6 @@ module _ {X : Type 0} where
   -- one item more
   pub marked_next : (xs : List X) (ms : List Bool) (x : X) (m : Bool) → length ms ≡ length xs → marked (xs ++ x ∷ []) (ms ++ m ∷ []) ≡ marked xs ms ++ cond m (x ∷ []) []
   marked_next xs ms x m same = marked_append xs (x ∷ []) ms (m ∷ []) same ∙ ap (λ (l : List X). marked xs ms ++ l) (marked_one x m)
-
-  -- one chunk more
-  pub marked_chunk_more : (xs : List X) (ms : List Bool) (size c : ℕ) (out more : List X) → length ms ≡ length xs → out ≡ marked (take (c * size) xs) (take (c * size) ms)
-      → more ≡ out ++ marked (chunk_of size xs c) (chunk_of size ms c) → more ≡ marked (take ((c + 1) * size) xs) (take ((c + 1) * size) ms)
-  marked_chunk_more xs ms size c out more same so_far added =
-      let step : c * size + size ≡ (c + 1) * size = sym (suc-mul c size) ∙ ap (λ (k : ℕ). k * size) (sym (add-one c)) in
-      let level : length (take (c * size) ms) ≡ length (take (c * size) xs) = length-take (c * size) ms ∙ (ap (min (c * size)) same ∙ sym (length-take (c * size) xs)) in
-      added
-      ∙ (ap (λ (l : List X). l ++ marked (chunk_of size xs c) (chunk_of size ms c)) so_far
-      ∙ (sym (marked_append (take (c * size) xs) (chunk_of size xs c) (take (c * size) ms) (chunk_of size ms c) level)
-      ∙ ((λ i. marked (sym (take-add (c * size) size xs) i) (sym (take-add (c * size) size ms) i)) ∙ ap (λ (k : ℕ). marked (take k xs) (take k ms)) step)))
 
   pub length_chunk : (size : ℕ) (xs : List X) (c : ℕ) → length (chunk_of size xs c) ≡ min size (length xs - c * size)
   length_chunk size xs c = length-take size (drop (c * size) xs) ∙ ap (min size) (length-drop (c * size) xs)
@@ -74,27 +63,20 @@ range_chunk size n c from is =
     let z : 0 + min (c * size) n ≡ from = omega arith in
     ap (take size) (drop_range (c * size) 0 n ∙ ap (λ (k : ℕ). range_with_len k (n - c * size)) z) ∙ take_range size from (n - c * size)
 
--- the chunks are all of them
-pub marked_all : {X : Type 0} (xs : List X) (ms : List Bool) (size c : ℕ) → 0 < size → length ms ≡ length xs → c ≡ chunk_count size (length xs)
-    → marked (take (c * size) xs) (take (c * size) ms) ≡ marked xs ms
-marked_all xs ms size c pos same is =
-    λ i. marked (whole_list size c xs pos is i) (whole_list size c ms pos (is ∙ ap (chunk_count size) (sym same)) i)
-
 -- what is pushed of one item more
-pub push_marked : {X : Type 0} (old out more xs xs' : List X) (ms ms' : List Bool) (x : X) (b : Bool) → length ms ≡ length xs → xs' ≡ xs ++ x ∷ [] → ms' ≡ ms ++ b ∷ [] → out ≡ old ++ marked xs ms
-    → more ≡ out ++ cond b (x ∷ []) [] → more ≡ old ++ marked xs' ms'
-push_marked {X} old out more xs xs' ms ms' x b same items marks so_far added =
+push_marked : {X : Type 0} (out more xs xs' : List X) (ms ms' : List Bool) (x : X) (b : Bool) → length ms ≡ length xs → xs' ≡ xs ++ x ∷ [] → ms' ≡ ms ++ b ∷ [] → out ≡ marked xs ms
+    → more ≡ out ++ cond b (x ∷ []) [] → more ≡ marked xs' ms'
+push_marked {X} out more xs xs' ms ms' x b same items marks so_far added =
     added
     ∙ (ap (λ (l : List X). l ++ cond b (x ∷ []) []) so_far
-    ∙ (append_assoc old (marked xs ms) (cond b (x ∷ []) [])
-    ∙ ap (λ (l : List X). old ++ l) (sym (marked_next xs ms x b same) ∙ (λ i. marked (sym items i) (sym marks i)))))
+    ∙ (sym (marked_next xs ms x b same) ∙ (λ i. marked (sym items i) (sym marks i))))
 
 -- the same in the middle of two lists
-pub push_item : {X : Type 0} (xs : List X) (ms : List Bool) (k : ℕ) (x : X) (d : Bool) (old out more : List X) → length ms ≡ length xs → k < length xs → x ≡ get_or xs k x
-    → out ≡ old ++ marked (take k xs) (take k ms) → more ≡ out ++ cond (get_or ms k d) (x ∷ []) [] → more ≡ old ++ marked (take (k + 1) xs) (take (k + 1) ms)
-push_item {X} xs ms k x d old out more same less here so_far added =
+pub push_item : {X : Type 0} (xs : List X) (ms : List Bool) (k : ℕ) (x : X) (d : Bool) (out more : List X) → length ms ≡ length xs → k < length xs → x ≡ get_or xs k x
+    → out ≡ marked (take k xs) (take k ms) → more ≡ out ++ cond (get_or ms k d) (x ∷ []) [] → more ≡ marked (take (k + 1) xs) (take (k + 1) ms)
+push_item {X} xs ms k x d out more same less here so_far added =
     let level : length (take k ms) ≡ length (take k xs) = length-take k ms ∙ (ap (min k) same ∙ sym (length-take k xs)) in
-    push_marked old out more (take k xs) (take (k + 1) xs) (take k ms) (take (k + 1) ms) x (get_or ms k d) level
+    push_marked out more (take k xs) (take (k + 1) xs) (take k ms) (take (k + 1) ms) x (get_or ms k d) level
     (take_more xs k x less ∙ ap (λ (y : X). take k xs ++ y ∷ []) (sym here))
     (take_more ms k d (omega arith))
     so_far added

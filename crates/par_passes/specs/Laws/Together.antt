@@ -36,10 +36,6 @@ pub if_ok : {A E : Type 0} {P Q : A → Type 0} (r : Result A E) → IfOk r P �
 if_ok (Ok x) p more = more x p
 if_ok (Err e) p more = tt
 
--- the chunks are the whole list
-pub whole_list : {T : Type 0} (size c : ℕ) (items : List T) → 0 < size → c ≡ chunk_count size (length items) → take (c * size) items ≡ items
-whole_list size c items pos is = take_all (c * size) items (subst (λ (n : ℕ). length items ≤ n * size) (sym is) (chunks_all (length items) size pos))
-
 zip_take : {X Y : Type 0} (n : ℕ) (xs : List X) (ys : List Y) → take n (zip xs ys) ≡ zip (take n xs) (take n ys)
 zip_take zero xs ys = refl
 zip_take (suc n) [] ys = refl

@@ -10,8 +10,8 @@ use Rattle.par_passes.proofs.dealt.deal_parts.Goals as goal
 
 pub returns-clause-values : goal.returns-clause-values
 returns-clause-values g c =
-    let size = c.args.size in let numbers = range_with_len 0 c.args.len in let chunks = c.requires.chunks in let post : _ → _ → Type 0 = λ x r. g.F.Fn.post c.args.f.now (x, tt) r in
+    let size = c.args.filling.now.plan.chunk in let numbers = range_with_len 0 c.args.filling.now.len in let chunks = c.requires.chunks in let post : _ → _ → Type 0 = λ x r. g.F.Fn.post c.args.filling.now.f.now (x, tt) r in
     if_ok c.fill_parts.result c.fill_parts.ensures.whole (λ p whole.
     let back = whole.values in
-    gives_chunks post part_items size numbers (length c.args.parts.items) back.0 (part_items p) chunks.0 (chunks.1 ∙ ap (chunk_count size) (sym (length-range_with_len 0 c.args.len))) back.2
+    gives_chunks post part_items size numbers (length c.args.parts.items) back.0 (part_items p) c.args.filling.now.plan.chunk_in_range.0 (chunks ∙ ap (chunk_count size) (sym (length-range_with_len 0 c.args.filling.now.len))) back.2
     (gives_weaker _ (λ k part. Gives post (chunk_of size numbers k) (part_items part)) _ back.0 (λ k part fine. fine.values) back.1))

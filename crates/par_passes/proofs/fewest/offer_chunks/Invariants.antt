@@ -10,8 +10,8 @@ invariant-loop-c g l = record {
   share : l.seat.view.share ≡ l.initial.seat.view.share;
   weight : l.mine.view.weight ≡ l.initial.mine.view.weight;
   unspent : 0 < l.mine.view.share;
-  offers : Offers l.size (map g.K.Lifted.code_of (range_with_len 0 l.len)) l.mine.view.claimed l.seat.view.offered;
+  offers : Offers l.offering.size (map g.K.Lifted.code_of (range_with_len 0 l.offering.len)) l.mine.view.claimed l.seat.view.offered;
 }
 
 abbrev pub decreases-loop-c : goal.decreases-loop-c
-decreases-loop-c g l = l.claims.chunks - length l.mine.view.claimed
+decreases-loop-c g l = l.offering.claims.now.chunks - length l.mine.view.claimed
