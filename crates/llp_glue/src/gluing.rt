@@ -8,9 +8,9 @@ ghost use Rattle.glue_summary.specs.Pieces.{at_begin};
 ghost use Rattle.glue_summary.specs.Stretch.{AreMet, IsGlueFault, IsGlued, chunk_productions, ended_by, entries_of, start_of};
 ghost use Rattle.llp_wide.specs.WideParsing.{IsFaultByWide, IsLeftParseByWide};
 
-use chunk_seats::{Crew, Gate};
+use chunk_seats::Crew;
 use glue_summary::{
-    Mark, ParseFault, PieceTables, Walk, chunks_make_the_whole, ended, join_word, marks_of_chunk,
+    Mark, ParseFault, PieceTables, chunks_make_the_whole, ended, join_word, marks_of_chunk,
     productions_of_chunk, tables_make_the_parse,
 };
 use llp_tables::Tables;
@@ -53,7 +53,7 @@ fn all_productions<T: PieceTables + Send + Sync>(
     crew.by_chunks(count_chunks(tokens.len(), size), tokens.len(), &productions)
 }
 
-// By the whole crew: what each chunk closes and opens, these joined in order onto the stack of the start, and then each chunk's productions.
+// What each chunk closes and opens, these joined in order onto the stack of the start, and then each chunk's productions.
 fn glue_by_chunks<T: PieceTables + Send + Sync>(
     crew: &impl Passes,
     tables: &T,
@@ -70,27 +70,6 @@ fn glue_by_chunks<T: PieceTables + Send + Sync>(
     Ok(all_productions(crew, tables, tokens, size)?)
 }
 
-// By one worker alone: the pairs are followed on the true stack, and their productions are written on the way.
-fn glue_in_turn<T: PieceTables + Send + Sync>(
-    crew: &impl Passes,
-    tables: &T,
-    tokens: &[u16],
-    size: u32,
-) -> Result<Vec<u16>, ParseFault>
-    requires size { (0 < size) × (size ≤ 65536) }
-    ensures ok { IfOk result (λ v. IsGlued (T.pieces tables.now) (T.mark tables.now) tokens.now v.items) }
-    ensures fault { IfErr result (IsGlueFault (T.pieces tables.now) (T.mark tables.now) tokens.now) }
-{
-    chunks_make_the_whole();
-    let mut walk = Walk::start(crew.alloc(), tables, tokens.len())?;
-    for c in 0..count_chunks(tokens.len(), size) as u64 {
-        crew.gate().after_claim(0, Some(c));
-        walk.follow_chunk(tables, tokens, size, c)?;
-    }
-    crew.gate().after_claim(0, None);
-    Ok(walk.productions())
-}
-
 // The productions of all pairs, or the least pair that fails.
 fn glue<T: PieceTables + Send + Sync>(
     crew: &impl Passes,
@@ -101,12 +80,7 @@ fn glue<T: PieceTables + Send + Sync>(
     ensures fault { IfErr result (IsGlueFault (T.pieces tables.now) (T.mark tables.now) tokens.now) }
 {
     let crew = &crew.for_items(tokens.len());
-    let plan = crew.plan();
-    if plan.workers == 1 || tokens.len() <= plan.chunk as usize {
-        glue_in_turn(crew, tables, tokens, plan.chunk)
-    } else {
-        glue_by_chunks(crew, tables, tokens, plan.chunk)
-    }
+    glue_by_chunks(crew, tables, tokens, crew.plan().chunk)
 }
 
 // The same for the word between its marks.

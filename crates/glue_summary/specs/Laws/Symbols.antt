@@ -1,5 +1,5 @@
 -- The test of two symbols holds of equal ones alone.
-use Rattle.std.proofs.Common.{◌≡◌, Bool, true, refl, ap, arith}
+use Rattle.std.proofs.Common.{◌≡◌, true, refl, ap, arith}
 use Rattle.std.proofs.lemmas.Bool.{eqb-true, eq-eqb}
 use Rattle.grammar_file.specs.declared.symbols.Symbol.{Symbol}
 use Rattle.grammar_file.specs.declared.symbols.Symbol.TheVariants.{Terminal, Nonterminal}
