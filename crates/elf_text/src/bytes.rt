@@ -1,6 +1,6 @@
 // Numbers in bytes, the lowest byte first. Bytes behind the last one count as 0.
 
-ghost use Rattle.std.specs.Prelude.{◌≡◌, ◌≤◌, ◌^◌, take, drop, slice_index};
+ghost use Rattle.std.specs.Prelude.{◌≡◌, ◌≤◌, ◌^◌, slice_index};
 ghost use Rattle.elf_file.specs.Load.{half_at as half_of, word_at as word_of};
 
 use byteorder::{ByteOrder, LittleEndian};
@@ -33,25 +33,4 @@ pub(crate) fn word_at(bytes: &[u8], offset: usize) -> u32
         byte_at(bytes, offset + 2),
         byte_at(bytes, offset + 3),
     ])
-}
-
-/// The bytes from a place on.
-fn behind(bytes: &[u8], place: usize) -> &[u8]
-    ensures { result.now ≡ drop place bytes.now }
-{
-    &bytes[place.min(bytes.len())..]
-}
-
-/// The first bytes, so many or all.
-fn front(bytes: &[u8], count: usize) -> &[u8]
-    ensures { result.now ≡ take count bytes.now }
-{
-    &bytes[..count.min(bytes.len())]
-}
-
-/// So many bytes from a place on, or those that are there.
-pub(crate) fn piece(bytes: &[u8], place: usize, count: usize) -> &[u8]
-    ensures { result.now ≡ take count (drop place bytes.now) }
-{
-    front(behind(bytes, place), count)
 }

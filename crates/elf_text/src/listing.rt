@@ -5,12 +5,13 @@ ghost use Rattle.elf_file.specs.Reading.{IsRefusal};
 ghost use Rattle.rv_text.specs.Written.{hexadecimal, listed};
 ghost use Rattle.elf_text.specs.Listing.{line, whole_words, rest, code_listed, is_code, file_bytes, header_listed, file_listed, dumped};
 
-use crate::bytes::{half_at, piece, word_at};
+use crate::bytes::{half_at, word_at};
 use elf_file::format::{
     E_PHNUM, E_PHOFF, EXECUTE, LOAD, P_FILESZ, P_FLAGS, P_MEMSZ, P_OFFSET, P_VADDR,
     PROGRAM_HEADER_SIZE,
 };
 use elf_file::{ReadError, read};
+use list_cuts::stretch_at;
 use rv_text::{LONGEST_LINE, push_hexadecimal, push_line};
 use std::alloc::{AllocError, Global};
 
@@ -81,7 +82,7 @@ fn file_bytes(file: &[u8], offset: usize) -> &[u8]
     ensures few { length result.now ≤ 2 ^ 32 }
 {
     let place = word_at(file, offset + P_OFFSET) as usize;
-    piece(file, place, word_at(file, offset + P_FILESZ) as usize)
+    stretch_at(file, place, word_at(file, offset + P_FILESZ) as usize)
 }
 
 /// Its listing, where it has code.

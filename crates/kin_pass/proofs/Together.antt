@@ -1,12 +1,13 @@
 -- What stretches know by themselves, in parts one behind the other, is what is known of all.
-use Rattle.std.proofs.Common.{◌≡◌, ℕ, suc, ◌+◌, ◌-◌, ◌*◌, ◌≤◌, List, [], ◌∷◌, ◌++◌, length, map, flat_map, take, drop, Some, slice_get, refl, sym, ap, subst, ◌∙◌, arith, length-append}
+use Rattle.std.proofs.Common.{◌≡◌, ℕ, suc, ◌+◌, ◌-◌, ◌*◌, ◌≤◌, List, [], ◌∷◌, ◌++◌, length, map, flat_map, Some, slice_get, refl, sym, ap, subst, ◌∙◌, arith, length-append}
 use Rattle.std.specs.List.{range_with_len}
-use Rattle.std.proofs.lemmas.List.{map-append, append-nil, take_all}
+use Rattle.std.proofs.lemmas.List.{map-append, append-nil}
 use denote.RawPtr.{Ptr, ◌+ₚ◌}
 use Rattle.list_cuts.specs.Cuts.{number_at, start_of, AreCuts}
 use Rattle.list_parts.specs.Laws.Chains.{get_below}
 use Rattle.list_parts.specs.Parts.{part_items, part_start, Chain, Fits, SamePlaces}
-use Rattle.row_kin.specs.Alone.{ties_alone, ties_by_stretches, ties_from}
+use Rattle.row_kin.specs.Alone.{ties_alone, ties_by_stretches}
+use Rattle.row_kin.specs.declared.stretches.Stretches.{Stretches}
 use Rattle.row_kin.specs.declared.stretches.Ties.{Ties}
 use Rattle.kin_pass.specs.declared.kin_parts.KinParts.{KinParts}
 use Rattle.kin_pass.specs.Kin.{AreTies}
@@ -62,38 +63,36 @@ ties_joined lows ends ys whole many has all =
     }
 
 -- where there is one stretch at most, it has all rows
-pub ties_of_one : (lows ends : List ℕ) → AreCuts ends (length lows) → length ends ≤ 1 → ties_from 0 lows ≡ ties_by_stretches lows ends
+pub ties_of_one : (lows ends : List ℕ) → AreCuts ends (length lows) → length ends ≤ 1 → ties_alone lows 0 (length lows) ≡ ties_by_stretches lows ends
 ties_of_one lows [] cuts few = none lows (sym cuts.all)
   where
-    none : (ls : List ℕ) → length ls ≡ 0 → ties_from 0 ls ≡ []
+    none : (ls : List ℕ) → length ls ≡ 0 → ties_alone ls 0 (length ls) ≡ []
     none [] h = refl
     none (x ∷ xs) h = absurd (omega arith)
-ties_of_one lows (e ∷ []) cuts few =
-    let whole : take (e - 0) (drop 0 lows) ≡ lows = take_all (e - 0) lows (let a : e ≡ length lows = cuts.all in omega arith) in
-    ap (ties_from 0) (sym whole) ∙ sym (append-nil (ties_alone lows 0 e))
+ties_of_one lows (e ∷ []) cuts few = ap (ties_alone lows 0) (sym cuts.all) ∙ sym (append-nil (ties_alone lows 0 e))
 ties_of_one lows (e ∷ d ∷ ends) cuts few = absurd (omega arith)
 
-pub tied_alone : (lows ends : List ℕ) → AreCuts ends (length lows) → length ends ≤ 1 → (ps fs ls ns : List ℕ) → AreTies (ties_from 0 lows) ps fs ls ns → AreTies (ties_by_stretches lows ends) ps fs ls ns
+pub tied_alone : (lows ends : List ℕ) → AreCuts ends (length lows) → length ends ≤ 1 → (ps fs ls ns : List ℕ) → AreTies (ties_alone lows 0 (length lows)) ps fs ls ns → AreTies (ties_by_stretches lows ends) ps fs ls ns
 tied_alone lows ends cuts few ps fs ls ns known = subst (λ ts. AreTies ts ps fs ls ns) (ties_of_one lows ends cuts few) known
 
 -- ---- the parts that come back, from what was cut and written
 pub cuts_of : (lows ends : List ℕ) (whole : KinParts) → AreCuts ends (length lows) → (list : Column) → IsLent (length lows) (list whole) → AreCuts ends (length (part_items (list whole)))
 cuts_of lows ends whole cuts list lent = subst (AreCuts ends) (sym lent.wide) cuts
 
-abbrev pub Written : (lows ends : List ℕ) (xs ys : List KinParts) → Type 0
-Written lows ends xs ys = (c : ℕ) (x y : KinParts) → slice_get xs c ≡ Some x → slice_get ys c ≡ Some y → AreWritten lows ends c x y
+abbrev pub Written : (s : Stretches) (xs ys : List KinParts) → Type 0
+Written s xs ys = (c : ℕ) (x y : KinParts) → slice_get xs c ≡ Some x → slice_get ys c ≡ Some y → AreWritten s c x y
 
-pub written_stay : (lows ends : List ℕ) (xs ys : List KinParts) → Written lows ends xs ys → EachList (λ list. Stay list xs ys)
-written_stay lows ends xs ys written = record {
+pub written_stay : (s : Stretches) (xs ys : List KinParts) → Written s xs ys → EachList (λ list. Stay list xs ys)
+written_stay s xs ys written = record {
   parents = λ c x y at there. (written c x y at there).place.parents;
   lows = λ c x y at there. (written c x y at there).place.lows;
   places = λ c x y at there. (written c x y at there).place.places;
   counts = λ c x y at there. (written c x y at there).place.counts;
 }
 
-pub written_ties : (lows ends : List ℕ) (xs ys : List KinParts) → length ys ≡ length xs → Written lows ends xs ys → (c : ℕ) (y : KinParts) → slice_get ys c ≡ Some y
-    → AreTiesIn (ties_alone lows (start_of ends c) (number_at ends c)) y
-written_ties lows ends xs ys many written c y at =
+pub written_ties : (s : Stretches) (xs ys : List KinParts) → length ys ≡ length xs → Written s xs ys → (c : ℕ) (y : KinParts) → slice_get ys c ≡ Some y
+    → AreTiesIn (ties_alone s.lows.now (start_of s.ends.now c) (number_at s.ends.now c)) y
+written_ties s xs ys many written c y at =
     let less = some_less ys c y at in
     let x = get_below xs c (omega arith) in
     (written c x.0 y x.1 at).ties

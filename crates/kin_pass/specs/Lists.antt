@@ -3,8 +3,9 @@ use Rattle.std.specs.Prelude.{◌≡◌, ℕ, ◌-◌, ◌^◌, ◌<◌, ◌≤�
 use Rattle.list_cuts.specs.Cuts.{number_at, start_of, AreCuts}
 use Rattle.list_parts.specs.declared.part.Part.{Part}
 use Rattle.list_parts.specs.Parts.{part_items, Fits, SamePlaces}
-use Rattle.row_kin.specs.Alone.{ties_alone}
+use Rattle.row_kin.specs.Alone.{ties_alone, ties_by_stretches}
 use Rattle.row_kin.specs.declared.alone.Kin.{Kin}
+use Rattle.row_kin.specs.declared.stretches.Stretches.{Stretches}
 use Rattle.row_kin.specs.declared.stretches.Ties.{Ties}
 use Rattle.kin_pass.specs.Kin.{AreTies}
 use Rattle.kin_pass.specs.declared.kin_parts.KinParts.{KinParts}
@@ -40,18 +41,26 @@ pub record HasRows (n : ℕ) (kin : Kin) : Type 0 where
   pub places : length kin.places.items ≡ n
   pub counts : length kin.counts.items ≡ n
 
--- stretches of the rows whose subtrees begin at these ones end at these places
-pub record AreStretches (lows ends : List ℕ) : Type 0 where
-  pub few : length lows ≤ 4294967295
-  pub cuts : AreCuts ends (length lows)
-  pub some : 0 < length ends
-  pub count : length ends < 2 ^ 62
+-- ---- rows by stretches
+-- there is a stretch, and together they are all rows
+pub record AreStretches (s : Stretches) : Type 0 where
+  pub few : length s.lows.now ≤ 4294967295
+  pub cuts : AreCuts s.ends.now (length s.lows.now)
+  pub some : 0 < length s.ends.now
+  pub count : length s.ends.now < 2 ^ 62
+
+abbrev pub row_count : Stretches → ℕ
+row_count s = length s.lows.now
+
+-- what the stretches know by themselves, one behind the other
+abbrev pub known_alone : Stretches → List Ties
+known_alone s = ties_by_stretches s.lows.now s.ends.now
 
 -- how many rows stretch c has, of those that end at these places
 abbrev pub rows_in : List ℕ → ℕ → ℕ
 rows_in ends c = number_at ends c - start_of ends c
 
 -- the parts of stretch c lie where they lay, and have what the stretch knows by itself
-pub record AreWritten (lows ends : List ℕ) (c : ℕ) (old new : KinParts) : Type 0 where
+pub record AreWritten (s : Stretches) (c : ℕ) (old new : KinParts) : Type 0 where
   pub place : EachList (λ list. SamePlaces (list old) (list new))
-  pub ties : AreTiesIn (ties_alone lows (start_of ends c) (number_at ends c)) new
+  pub ties : AreTiesIn (ties_alone s.lows.now (start_of s.ends.now c) (number_at s.ends.now c)) new

@@ -1,14 +1,14 @@
 //! The kin of all rows.
 ghost use Rattle.std.specs.Prelude.{◌≡◌, ◌<◌, ◌≤◌, ◌^◌, length, IfOk};
 ghost use Rattle.list_cuts.specs.Cuts.{AreCuts};
-ghost use Rattle.row_kin.specs.Alone.{ties_by_stretches, ties_from};
+ghost use Rattle.row_kin.specs.Alone.{ties_alone};
 ghost use Rattle.kin_pass.specs.Kin.{AreKin, AreTies};
-ghost use Rattle.kin_pass.specs.Lists.{HasRows};
+ghost use Rattle.kin_pass.specs.Lists.{HasRows, known_alone};
 
-use crate::ends::stretch_ends;
 use crate::lent::lend_all;
+use list_cuts::stretch_ends;
 use par_passes::Passes;
-use row_kin::{Kin, kin_settled, kin_stretch};
+use row_kin::{Kin, Stretch, Stretches, kin_settled};
 use std::alloc::{AllocError, Global};
 
 // Lists of so many zeros.
@@ -23,11 +23,11 @@ fn blank_kin(alloc: Global, rows: usize) -> Result<Kin, AllocError>
     })
 }
 
-// What is known of the rows in one stretch, written into these lists.
-fn write_alone(lows: &[u32], kin: Kin) -> Kin
+// What is known of the rows, taken as one stretch, written into these lists.
+fn write_in_one(lows: &[u32], kin: Kin) -> Kin
     requires few { length lows.now ≤ 4294967295 }
     requires wide { HasRows (length lows.now) kin }
-    ensures { AreTies (ties_from 0 lows.now) result.parents.items result.lows.items result.places.items result.counts.items }
+    ensures { AreTies (ties_alone lows.now 0 (length lows.now)) result.parents.items result.lows.items result.places.items result.counts.items }
 {
     let Kin {
         mut parents,
@@ -35,9 +35,12 @@ fn write_alone(lows: &[u32], kin: Kin) -> Kin
         mut places,
         mut counts,
     } = kin;
-    kin_stretch(
+    let stretch = Stretch {
         lows,
-        0,
+        from: 0,
+        to: lows.len(),
+    };
+    stretch.write_alone(
         parents.as_mut_slice(),
         firsts.as_mut_slice(),
         places.as_mut_slice(),
@@ -51,18 +54,18 @@ fn write_alone(lows: &[u32], kin: Kin) -> Kin
     }
 }
 
-// What the stretches that end at these places know by themselves, one behind the other.
-fn known_kin(crew: &impl Passes, lows: &[u32], ends: &[usize]) -> Result<Kin, AllocError>
-    requires few { length lows.now ≤ 4294967295 }
-    requires cuts { AreCuts ends.now (length lows.now) }
-    requires count { length ends.now < 2 ^ 62 }
-    ensures { IfOk result (λ v. AreTies (ties_by_stretches lows.now ends.now) v.parents.items v.lows.items v.places.items v.counts.items) }
+// What the stretches know by themselves, one behind the other.
+fn known_kin(crew: &impl Passes, stretches: &Stretches<'_>) -> Result<Kin, AllocError>
+    requires few { length stretches.now.lows.now ≤ 4294967295 }
+    requires cuts { AreCuts stretches.now.ends.now (length stretches.now.lows.now) }
+    requires count { length stretches.now.ends.now < 2 ^ 62 }
+    ensures { IfOk result (λ v. AreTies (known_alone stretches.now) v.parents.items v.lows.items v.places.items v.counts.items) }
 {
-    let blank = blank_kin(crew.alloc(), lows.len())?;
-    if ends.len() <= 1 {
-        return Ok(write_alone(lows, blank));
+    let blank = blank_kin(crew.alloc(), stretches.lows.len())?;
+    if stretches.ends.len() <= 1 {
+        return Ok(write_in_one(stretches.lows, blank));
     }
-    lend_all(crew, lows, ends, blank)
+    lend_all(crew, stretches, blank)
 }
 
 /// The kin of rows whose subtrees begin at these ones. `shares` says how many stretches each worker has, where they are no shorter than a chunk; one
@@ -74,6 +77,10 @@ pub fn kin(crew: &impl Passes, lows: &[u32], shares: u32) -> Result<Kin, AllocEr
 {
     let crew = &crew.for_items(lows.len());
     let ends = stretch_ends(crew, lows.len(), shares)?;
-    let known = known_kin(crew, lows, ends.as_slice())?;
-    Ok(kin_settled(lows, ends.as_slice(), known))
+    let stretches = Stretches {
+        lows,
+        ends: ends.as_slice(),
+    };
+    let known = known_kin(crew, &stretches)?;
+    Ok(kin_settled(lows, stretches.ends, known))
 }

@@ -6,7 +6,6 @@
 mod all;
 mod cut;
 mod dealt;
-mod ends;
 mod function_rows;
 mod glued;
 mod kin_parts;
@@ -15,6 +14,5 @@ mod sums;
 mod written;
 
 pub use all::kin;
-pub use ends::stretch_ends;
 pub use function_rows::functions;
 pub use sums::Sum;

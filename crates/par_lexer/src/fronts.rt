@@ -10,7 +10,7 @@ use crate::functions::Functions;
 use crate::parts::{Behind, Part};
 use crate::states::NOTHING;
 use crate::stretch::{Point, Told, tell};
-use chunk_seats::{Crew, Plan, Workers};
+use chunk_seats::{Crew, Workers};
 use list_cuts::stretch_start;
 use par_passes::Passes;
 use std::alloc::{AllocError, Global};
@@ -64,18 +64,6 @@ fn count_bytes(ends: &[usize], parts: &[Part]) -> usize
 // Up to so many bytes of fronts are told by one worker: to start a thread takes longer.
 const FEW_BYTES: usize = 4096;
 
-// The plan for so many bytes of fronts.
-fn plan_for(plan: Plan, len: usize) -> Plan {
-    if len <= FEW_BYTES {
-        Plan {
-            workers: 1,
-            chunk: plan.chunk,
-        }
-    } else {
-        plan.for_items(len)
-    }
-}
-
 // Stretches of a text: where each ends, what each tells by itself, and the state before each.
 #[derive(Clone, Copy)]
 struct Stretches<'a> {
@@ -112,10 +100,11 @@ impl Stretches<'_> {
             requires { AreReady self.now × (c < length self.now.parts.now) }
             ensures { IfOk result (TellsFront self.entry.now.text.now self.entry.now.ends.now self.entry.now.parts.now c) }
         { self.front(alloc, c as usize) };
+        let bytes = count_bytes(self.ends, self.parts);
         let crew = Workers {
             runtime: crew.runtime(),
             alloc,
-            plan: plan_for(crew.plan(), count_bytes(self.ends, self.parts)),
+            plan: crew.plan().for_items(bytes).unless_few(bytes, FEW_BYTES),
             gate: crew.gate(),
         };
         crew.bundles(self.parts.len(), &make)

@@ -5,7 +5,8 @@ ghost use Rattle.pass_page.specs.Page.{escaped, source_box, spans};
 
 use crate::escaped::{push_box_end, push_box_start, push_escaped};
 use ast_rows::Tokens;
-use pass_tables::{bytes_at, number_at};
+use list_cuts::stretch_at;
+use pass_tables::number_at;
 use std::alloc::AllocError;
 
 // Writes a token behind a text.
@@ -25,11 +26,11 @@ fn push_spans(out: &mut Vec<u8>, text: &[u8], tokens: &Tokens) -> Result<(), All
     for k in 0..tokens.len() {
         let start = number_at(tokens.starts(), k) as usize;
         let length = number_at(tokens.lengths(), k) as usize;
-        push_escaped(out, bytes_at(text, place, start.saturating_sub(place)))?;
-        push_span(out, bytes_at(text, start, length))?;
+        push_escaped(out, stretch_at(text, place, start.saturating_sub(place)))?;
+        push_span(out, stretch_at(text, start, length))?;
         place = start + length;
     }
-    push_escaped(out, bytes_at(text, place, text.len()))
+    push_escaped(out, stretch_at(text, place, text.len()))
 }
 
 /// Writes the box of a source behind a text: the source, with each of its tokens as a span.

@@ -29,7 +29,7 @@ pub use parse::parse_columns;
 pub use pieces::place_columns;
 pub use rows::{push_kind, row_columns};
 pub use states::state_columns;
-pub use tokens::{bytes_at, number_at, token_columns};
+pub use tokens::{number_at, token_columns};
 pub use types::type_columns;
 pub use worked::{
     worked_code, worked_frames, worked_names, worked_pairs, worked_parses, worked_pieces,

@@ -1,11 +1,12 @@
 //! The tokens of a text.
 
-ghost use Rattle.std.specs.Prelude.{◌≡◌, codes, drop, map, slice_index_or, take, IfOk};
+ghost use Rattle.std.specs.Prelude.{◌≡◌, codes, map, slice_index_or, IfOk};
 ghost use Rattle.source_meaning.specs.Grammar.{terminal_name};
 ghost use Rattle.pass_tables.specs.Tables.{lexeme_of, texts, token_columns, token_text};
 
 use crate::columns::{numbers, places};
 use ast_rows::Tokens;
+use list_cuts::stretch_at;
 use source_meaning::Terminal;
 use std::alloc::{AllocError, Global};
 use text_columns::{Align, Column};
@@ -17,34 +18,13 @@ pub fn number_at(column: &[u32], place: usize) -> u32
     column.get(place).copied().unwrap_or(0)
 }
 
-// The bytes from a place on.
-fn behind(bytes: &[u8], place: usize) -> &[u8]
-    ensures { result.now ≡ drop place bytes.now }
-{
-    &bytes[place.min(bytes.len())..]
-}
-
-// The first bytes, so many or all.
-fn front(bytes: &[u8], count: usize) -> &[u8]
-    ensures { result.now ≡ take count bytes.now }
-{
-    &bytes[..count.min(bytes.len())]
-}
-
-/// The bytes of a text from a place on, so many or as many as there are.
-pub fn bytes_at(text: &[u8], place: usize, count: usize) -> &[u8]
-    ensures { result.now ≡ take count (drop place text.now) }
-{
-    front(behind(text, place), count)
-}
-
 /// The bytes of the token with a number, or nothing where there is none.
 pub(crate) fn lexeme<'a>(text: &'a [u8], tokens: &Tokens, number: usize) -> &'a [u8]
     ensures { result.now ≡ token_text text.now tokens.now number }
 {
     let start = number_at(tokens.starts(), number);
     let length = number_at(tokens.lengths(), number);
-    bytes_at(text, start as usize, length as usize)
+    stretch_at(text, start as usize, length as usize)
 }
 
 // The bytes of each token.

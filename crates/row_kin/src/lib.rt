@@ -10,4 +10,4 @@ mod stretches;
 
 pub use alone::Kin;
 pub use settling::kin_settled;
-pub use stretches::{Ties, kin_stretch};
+pub use stretches::{Stretch, Stretches, Ties};

@@ -10,6 +10,7 @@ ghost use Rattle.row_kin.specs.Alone.{ties_by_stretches};
 
 use crate::alone::Kin;
 use crate::intake::{Intake, Taker};
+use crate::stretches::{Stretch, Stretches};
 
 // The next row of the stretch that may take in rows before it, as its parent is that of the stretch; `to` if it has none.
 fn next_record(lows: &[u32], parents: &[u32], i: usize, to: usize) -> usize
@@ -20,14 +21,6 @@ fn next_record(lows: &[u32], parents: &[u32], i: usize, to: usize) -> usize
 {
     let parent = parents[i] as usize;
     if parent == i { to } else { parent }
-}
-
-// A stretch of rows, from one up to another. `lows` says where the subtrees of all rows begin.
-#[derive(Clone, Copy)]
-struct Stretch<'a> {
-    lows: &'a [u32],
-    from: usize,
-    to: usize,
 }
 
 impl Stretch<'_> {
@@ -77,15 +70,8 @@ impl Stretch<'_> {
     }
 }
 
-// Rows by stretches, each of which is done by itself: where the rows' subtrees begin, and where the stretches end, in order.
-#[derive(Clone, Copy)]
-struct Stretches<'a> {
-    lows: &'a [u32],
-    ends: &'a [usize],
-}
-
 impl Stretches<'_> {
-    // Settles all rows.
+    // Settles all rows, each stretch of which is done by itself.
     fn settle(
         &self,
         parents: &mut [u32],

@@ -1,7 +1,7 @@
-//! One stretch of the rows, by itself.
-ghost use Rattle.std.specs.Prelude.{◌≡◌, ℕ, ◌+◌, ◌<◌, ◌≤◌, length, map};
+//! Stretches of the rows, and what one knows by itself.
+ghost use Rattle.std.specs.Prelude.{◌≡◌, ℕ, ◌+◌, ◌-◌, ◌<◌, ◌≤◌, length, map};
 ghost use Rattle.list_cuts.specs.Cuts.{number_at};
-ghost use Rattle.row_kin.specs.Alone.{ties_from};
+ghost use Rattle.row_kin.specs.Alone.{ties_alone};
 
 use crate::alone::kin_into;
 
@@ -29,27 +29,50 @@ fn shift(numbers: &mut [u32], by: usize)
     }
 }
 
-/// Writes what a stretch knows by itself into its parts of four lists: `lows` says where the subtrees of its own rows begin, and the
-/// first of these has the number `from`.
-pub fn kin_stretch(
-    lows: &[u32],
-    from: usize,
-    parents: &mut [u32],
-    firsts: &mut [u32],
-    places: &mut [u32],
-    counts: &mut [u32],
-)
-    requires few { from + length lows.now ≤ 4294967295 }
-    requires parents { length parents.old ≡ length lows.now }
-    requires firsts { length firsts.old ≡ length lows.now }
-    requires places { length places.old ≡ length lows.now }
-    requires counts { length counts.old ≡ length lows.now }
-    ensures parents { parents.new ≡ map (λ t. t.parent) (ties_from from lows.now) }
-    ensures firsts { firsts.new ≡ map (λ t. t.low) (ties_from from lows.now) }
-    ensures places { places.new ≡ map (λ t. t.place) (ties_from from lows.now) }
-    ensures counts { counts.new ≡ map (λ t. t.count) (ties_from from lows.now) }
-{
-    kin_into(lows, parents, firsts, places, counts);
-    shift(parents, from);
-    shift(firsts, from);
+/// A stretch of rows, from one up to another.
+#[derive(Clone, Copy)]
+pub struct Stretch<'a> {
+    /// The first row of the subtree of each row.
+    pub lows: &'a [u32],
+    /// The first row of the stretch.
+    pub from: usize,
+    /// The row behind its last one.
+    pub to: usize,
+}
+
+impl Stretch<'_> {
+    /// Writes what the stretch knows by itself into its parts of four lists.
+    pub fn write_alone(
+        &self,
+        parents: &mut [u32],
+        firsts: &mut [u32],
+        places: &mut [u32],
+        counts: &mut [u32],
+    )
+        requires few { length self.now.lows.now ≤ 4294967295 }
+        requires order { self.now.from ≤ self.now.to }
+        requires within { self.now.to ≤ length self.now.lows.now }
+        requires parents { length parents.old ≡ self.now.to - self.now.from }
+        requires firsts { length firsts.old ≡ self.now.to - self.now.from }
+        requires places { length places.old ≡ self.now.to - self.now.from }
+        requires counts { length counts.old ≡ self.now.to - self.now.from }
+        ensures parents { parents.new ≡ map (λ t. t.parent) (ties_alone self.now.lows.now self.now.from self.now.to) }
+        ensures firsts { firsts.new ≡ map (λ t. t.low) (ties_alone self.now.lows.now self.now.from self.now.to) }
+        ensures places { places.new ≡ map (λ t. t.place) (ties_alone self.now.lows.now self.now.from self.now.to) }
+        ensures counts { counts.new ≡ map (λ t. t.count) (ties_alone self.now.lows.now self.now.from self.now.to) }
+    {
+        let own = &self.lows[self.from..self.to];
+        kin_into(own, parents, firsts, places, counts);
+        shift(parents, self.from);
+        shift(firsts, self.from);
+    }
+}
+
+/// All rows, by stretches in order.
+#[derive(Clone, Copy)]
+pub struct Stretches<'a> {
+    /// The first row of the subtree of each row.
+    pub lows: &'a [u32],
+    /// The row behind the last one of each stretch.
+    pub ends: &'a [usize],
 }

@@ -16,6 +16,7 @@ use Rattle.row_columns.specs.Numbers.{IsParseOf}
 use Rattle.row_columns.specs.RowFaults.{least_in}
 use Rattle.row_columns.specs.Stretches.{AreStretch}
 use Rattle.tree_passes.specs.declared.starts.Start.{Start}
+use Rattle.tree_passes.specs.declared.walked.Stretches.{Stretches}
 
 -- The stretches that end at these places have a whole left parse
 pub record IsCut (numbers ends : List ℕ) : Type 0 where
@@ -90,6 +91,13 @@ nowhere = record { stack = []; count = 0; last = no_row }
 pub record AreHanded (numbers ends : List ℕ) (standings : List Standing) : Type 0 where
   pub many : length ends ≤ length standings
   pub each : (c : ℕ) → c < length ends → IsHanded numbers ends c (slice_index_or standings c nowhere)
+
+-- the stretches of a left parse, what holds before each, and the standing from which it is walked over
+pub record AreStretches (numbers : List ℕ) (s : Stretches) : Type 0 where
+  pub cut : IsCut numbers s.ends.now
+  pub starts : AreStarts numbers s.ends.now s.starts.now
+  pub begun : length s.ends.now ≤ length s.starts.now
+  pub handed : AreHanded numbers s.ends.now s.handed.now
 
 -- kinds, first rows of subtrees and own tokens of the rows that a stretch closes
 abbrev pub AreColumnsOf : (text numbers ends : List ℕ) → ℕ → List Kind → (lows tokens : List ℕ) → Type 0

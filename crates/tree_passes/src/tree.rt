@@ -24,9 +24,10 @@ use crate::laid::lay;
 use crate::owned::owned_all;
 use crate::standings::{hand_out, reduce_all};
 use crate::starts::{Parse, add_up, tally_all};
-use crate::walked::{columns_all, join_columns};
+use crate::walked::{Stretches, columns_all, join_columns};
 use ast_rows::{Links, Rows, Tokens};
-use kin_pass::{functions, kin, stretch_ends};
+use kin_pass::{functions, kin};
+use list_cuts::stretch_ends;
 use par_passes::Passes;
 use phase_faults::{FaultKey, PhaseFault};
 use row_columns::{Columns, Source, add_program, stretches_are_rows, stretches_tell_faults};
@@ -53,7 +54,12 @@ fn walk_columns(
     let starts = add_up(crew.alloc(), parse, tallies.as_slice())?;
     let lists = reduce_all(crew, parse, starts.as_slice(), before_last)?;
     let handed = hand_out(crew.alloc(), parse, lists.as_slice())?;
-    let parts = columns_all(crew, source, ends, starts.as_slice(), handed.as_slice())?;
+    let stretches = Stretches {
+        ends,
+        starts: starts.as_slice(),
+        handed: handed.as_slice(),
+    };
+    let parts = columns_all(crew, source, &stretches)?;
     join_columns(crew.alloc(), source, ends, parts)
 }
 

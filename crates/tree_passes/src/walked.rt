@@ -7,41 +7,49 @@ ghost use Rattle.row_columns.specs.Numbers.{IsParseOf};
 ghost use Rattle.row_columns.specs.TokensOf.{AreTokensOf};
 ghost use Rattle.row_columns.specs.Stretches.{AreStretch};
 ghost use Rattle.row_columns.specs.declared.stretch.Columns.{Columns as AnyColumns};
-ghost use Rattle.tree_passes.specs.Stretches.{AreColumnsOf, AreHanded, AreStarts, IsCut, rows_of_stretch};
+ghost use Rattle.tree_passes.specs.Stretches.{AreColumnsOf, AreStretches, IsCut, rows_of_stretch};
 
-use crate::starts::{Parse, Start};
+use crate::starts::Start;
 use list_cuts::stretch_start;
 use par_passes::Passes;
 use row_columns::{Columns, Source, stretch_columns};
 use row_pieces::{Made, Point, Standing, walk_stretch};
 use std::alloc::{AllocError, Global};
 
+/// The stretches of a left parse, and what each is walked over from.
+#[derive(Clone, Copy)]
+pub(crate) struct Stretches<'a> {
+    /// Where each one ends.
+    pub(crate) ends: &'a [usize],
+    /// What holds before each.
+    pub(crate) starts: &'a [Start],
+    /// The rows that are open before each and that it may meet.
+    pub(crate) handed: &'a [Standing],
+}
+
 // The rows that stretch number c closes.
 fn walk_by_number(
     alloc: Global,
-    parse: Parse<'_>,
-    starts: &[Start],
-    handed: &[Standing],
+    numbers: &[u16],
+    stretches: &Stretches<'_>,
     c: usize,
 ) -> Result<Vec<Made>, AllocError>
-    requires cut { IsCut parse.numbers.now parse.ends.now }
-    requires starts { AreStarts parse.numbers.now parse.ends.now starts.now }
-    requires begun { length parse.ends.now ≤ length starts.now }
-    requires handed { AreHanded parse.numbers.now parse.ends.now handed.now }
-    requires inside { c < length parse.ends.now }
-    ensures { IfOk result (λ v. v.items ≡ rows_of_stretch parse.entry.numbers.now parse.entry.ends.now c) }
+    requires stretches { AreStretches numbers.now stretches.now }
+    requires inside { c < length stretches.now.ends.now }
+    ensures { IfOk result (λ v. v.items ≡ rows_of_stretch numbers.now stretches.now.ends.now c) }
 {
-    let place = stretch_start(parse.ends, c);
-    let start = starts[c];
+    let ends = stretches.ends;
+    let place = stretch_start(ends, c);
+    let start = stretches.starts[c];
     let from = Point {
         place,
         level: start.level,
         read: start.read,
     };
-    let mut standing = handed[c].copy(alloc)?;
+    let mut standing = stretches.handed[c].copy(alloc)?;
     let mut made = Vec::new(alloc);
-    walk_stretch(parse.numbers, from, parse.ends[c], &mut standing, &mut made)?;
-    if c + 1 == parse.ends.len() {
+    walk_stretch(numbers, from, ends[c], &mut standing, &mut made)?;
+    if c + 1 == ends.len() {
         standing.close_all(&mut made)?;
     }
     Ok(made)
@@ -51,25 +59,17 @@ fn walk_by_number(
 fn columns_by_number(
     alloc: Global,
     source: &Source<'_>,
-    ends: &[usize],
-    starts: &[Start],
-    handed: &[Standing],
+    stretches: &Stretches<'_>,
     c: usize,
 ) -> Result<Columns, AllocError>
-    requires cut { IsCut source.now.numbers.now ends.now }
     requires tokens { AreTokensOf source.now.text.now source.now.starts.now source.now.lengths.now source.now.owned.now }
-    requires starts { AreStarts source.now.numbers.now ends.now starts.now }
-    requires begun { length ends.now ≤ length starts.now }
-    requires handed { AreHanded source.now.numbers.now ends.now handed.now }
-    requires inside { c < length ends.now }
-    ensures { IfOk result (λ v. AreColumnsOf source.now.text.now source.now.numbers.now ends.now c v.kinds.items v.lows.items v.tokens.items) }
+    requires stretches { AreStretches source.now.numbers.now stretches.now }
+    requires inside { c < length stretches.now.ends.now }
+    ensures { IfOk result (λ v. AreColumnsOf source.now.text.now source.now.numbers.now stretches.now.ends.now c v.kinds.items v.lows.items v.tokens.items) }
 {
-    let parse = Parse {
-        numbers: source.numbers,
-        ends,
-    };
-    let made = walk_by_number(alloc, parse, starts, handed, c)?;
-    let (last, count) = (handed[c].last(), handed[c].count());
+    let made = walk_by_number(alloc, source.numbers, stretches, c)?;
+    let standing = &stretches.handed[c];
+    let (last, count) = (standing.last(), standing.count());
     stretch_columns(alloc, source, made.as_slice(), last, count)
 }
 
@@ -77,27 +77,21 @@ fn columns_by_number(
 pub(crate) fn columns_all(
     crew: &impl Passes,
     source: &Source<'_>,
-    ends: &[usize],
-    starts: &[Start],
-    handed: &[Standing],
+    stretches: &Stretches<'_>,
 ) -> Result<Vec<Columns>, AllocError>
-    requires cut { IsCut source.now.numbers.now ends.now }
     requires tokens { AreTokensOf source.now.text.now source.now.starts.now source.now.lengths.now source.now.owned.now }
-    requires starts { AreStarts source.now.numbers.now ends.now starts.now }
-    requires begun { length ends.now ≤ length starts.now }
-    requires handed { AreHanded source.now.numbers.now ends.now handed.now }
-    ensures many { IfOk result (λ v. length v.items ≡ length ends.now) }
+    requires stretches { AreStretches source.now.numbers.now stretches.now }
+    ensures many { IfOk result (λ v. length v.items ≡ length stretches.now.ends.now) }
     ensures each { IfOk result (λ v. (c : ℕ) (x : AnyColumns) → slice_get v.items c ≡ Some x
-        → AreColumnsOf source.now.text.now source.now.numbers.now ends.now c x.kinds.items x.lows.items x.tokens.items) }
+        → AreColumnsOf source.now.text.now source.now.numbers.now stretches.now.ends.now c x.kinds.items x.lows.items x.tokens.items) }
 {
     let alloc = crew.alloc();
     let make = |c: u64| -> Result<Columns, AllocError>
-        requires { IsCut source.now.numbers.now ends.now × AreTokensOf source.now.text.now source.now.starts.now source.now.lengths.now source.now.owned.now
-            × AreStarts source.now.numbers.now ends.now starts.now × (length ends.now ≤ length starts.now)
-            × AreHanded source.now.numbers.now ends.now handed.now × (c < length ends.now) }
-        ensures { IfOk result (λ v. AreColumnsOf source.entry.now.text.now source.entry.now.numbers.now ends.entry.now c v.kinds.items v.lows.items v.tokens.items) }
-    { columns_by_number(alloc, source, ends, starts, handed, c as usize) };
-    crew.bundles(ends.len(), &make)
+        requires { AreTokensOf source.now.text.now source.now.starts.now source.now.lengths.now source.now.owned.now
+            × AreStretches source.now.numbers.now stretches.now × (c < length stretches.now.ends.now) }
+        ensures { IfOk result (λ v. AreColumnsOf source.entry.now.text.now source.entry.now.numbers.now stretches.entry.now.ends.now c v.kinds.items v.lows.items v.tokens.items) }
+    { columns_by_number(alloc, source, stretches, c as usize) };
+    crew.bundles(stretches.ends.len(), &make)
 }
 
 // How many rows the columns have.

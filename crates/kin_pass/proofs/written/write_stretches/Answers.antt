@@ -8,11 +8,10 @@ pub work_in_place-requires-clause-callable : goal.work_in_place-requires-clause-
 work_in_place-requires-clause-callable g c κs within = λ k x at p is.
     let less = some_less c.args.parts.items k x at in
     let many = c.requires.count in
-    (c.requires.stretches, omega arith, subst (AreWide (rows_in c.args.ends.now k)) (sym is) (c.requires.wide k x at))
+    (c.requires.stretches, omega arith, subst (AreWide (rows_in c.args.stretches.now.ends.now k)) (sym is) (c.requires.wide k x at))
 
 pub returns-clause-each : goal.returns-clause-each
 returns-clause-each g c = if_ok c.work_in_place.result c.work_in_place.ensures.each (λ v all k x y at there.
-    let lows = c.args.lows.now in
-    let ends = c.args.ends.now in
+    let s = c.args.stretches.now in
     let changed = all k x y at there in
-    subst (λ a. AreWritten lows ends k a y) changed.argument_is (subst (AreWritten lows ends k changed.argument.now) changed.left changed.call))
+    subst (λ a. AreWritten s k a y) changed.argument_is (subst (AreWritten s k changed.argument.now) changed.left changed.call))

@@ -10,4 +10,4 @@ returns c =
     let k = c.args.number in
     let start : c.number_at-start.result ≡ get_or (map (λ (t : TokenRow). t.start) tokens) k 0 = c.number_at-start.ensures ∙ ap (λ (xs : List ℕ). get_or xs k 0) c.starts.ensures in
     let length : c.number_at-length.result ≡ get_or (map (λ (t : TokenRow). t.length) tokens) k 0 = c.number_at-length.ensures ∙ ap (λ (xs : List ℕ). get_or xs k 0) c.lengths.ensures in
-    c.bytes_at.ensures ∙ (λ i. take (length i) (drop (start i) text)) ∙ sym (by_columns text tokens k)
+    c.stretch_at.ensures ∙ (λ i. take (length i) (drop (start i) text)) ∙ sym (by_columns text tokens k)

@@ -8,12 +8,12 @@ use Rattle.tree_passes.proofs.walked.columns_by_number.Goals as goal
 pub stretch_columns-requires-clause-rows : goal.stretch_columns-requires-clause-rows
 stretch_columns-requires-clause-rows c =
     let numbers = c.args.source.now.numbers.now in
-    let ends = c.args.ends.now in
+    let ends = c.args.stretches.now.ends.now in
     let k = c.args.c in
     let i : k < length ends = c.requires.inside in
-    let m = c.requires.handed.many in
-    let h = c.requires.handed.each k i in
-    let few = rows_few numbers ends c.requires.cut k i in
-    let count = c.count-count.ensures ∙ ap (λ (s : Standing). s.count) (c.index-handed-c-2.is ∙ other_default c.args.handed.now k c.index-handed-c-2.result nowhere (omega arith)) ∙ h.count in
+    let m = c.requires.stretches.handed.many in
+    let h = c.requires.stretches.handed.each k i in
+    let few = rows_few numbers ends c.requires.stretches.cut k i in
+    let count = c.count-count.ensures ∙ ap (λ (s : Standing). s.count) (other_default c.args.stretches.now.handed.now k c.index-stretches-c.result nowhere (omega arith)) ∙ h.count in
     let rows = ap length (c.as_slice.ensures.value ∙ c.in_ok-made.ensures) in
     omega arith

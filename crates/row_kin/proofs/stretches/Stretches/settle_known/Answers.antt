@@ -4,7 +4,7 @@ use Rattle.std.proofs.lemmas.List.{length-map}
 use Rattle.row_kin.specs.Settles.{Stretched}
 use Rattle.row_kin.specs.Alone.{ties_by_stretches}
 use Rattle.row_kin.proofs.Joined.{joined_many, joined_alone}
-use Rattle.row_kin.proofs.settling.Stretches.settle_known.Goals as goal
+use Rattle.row_kin.proofs.stretches.Stretches.settle_known.Goals as goal
 
 pub settle-requires-clause-parents : goal.settle-requires-clause-parents
 settle-requires-clause-parents c = ap length c.requires.parents ∙ length-map (ties_by_stretches c.args.self.now.lows.now c.args.self.now.ends.now) (λ t. t.parent) ∙ joined_many c.args.self.now.lows.now c.args.self.now.ends.now (length c.args.self.now.lows.now) c.requires.cuts refl

@@ -5,7 +5,7 @@ use Rattle.row_kin.proofs.Starts.{start_more}
 use Rattle.row_kin.specs.Settles.{Done}
 use Rattle.row_kin.proofs.Along.{stretches_left}
 use Rattle.row_kin.proofs.Told.{parents_told, firsts_told, places_told, counts_told}
-use Rattle.row_kin.proofs.settling.Stretches.settle.Goals as goal
+use Rattle.row_kin.proofs.stretches.Stretches.settle.Goals as goal
 
 pub loop-end-preserved : goal.loop-end-preserved
 loop-end-preserved c = record {

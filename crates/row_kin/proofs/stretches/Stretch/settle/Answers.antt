@@ -5,7 +5,7 @@ use Rattle.row_kin.specs.Taken.{taker}
 use Rattle.row_kin.proofs.Looking.{taken_few, taker_behind}
 use Rattle.row_kin.proofs.Writing.{set_other, set_same}
 use Rattle.row_kin.proofs.Chained.{settle_begins, settle_steps, count_all, places_right}
-use Rattle.row_kin.proofs.settling.Stretch.settle.Goals as goal
+use Rattle.row_kin.proofs.stretches.Stretch.settle.Goals as goal
 
 pub loop-i-init : goal.loop-i-init
 loop-i-init c = record {

@@ -2,7 +2,7 @@
 use Rattle.std.proofs.Common.{◌≡◌, length}
 use Rattle.list_cuts.specs.Cuts.{start_of}
 use Rattle.row_kin.specs.Settles.{Done, Stretched}
-use Rattle.row_kin.proofs.settling.Stretches.settle.Given as goal
+use Rattle.row_kin.proofs.stretches.Stretches.settle.Given as goal
 
 abbrev pub invariant-loop-end : goal.invariant-loop-end
 invariant-loop-end l = record {

@@ -2,7 +2,7 @@
 use Rattle.std.proofs.Common.{◌≡◌, ℕ, ◌-◌, ◌≤◌}
 use Rattle.list_cuts.specs.Cuts.{number_at}
 use Rattle.row_kin.specs.Settles.{Settling}
-use Rattle.row_kin.proofs.settling.Stretch.settle.Given as goal
+use Rattle.row_kin.proofs.stretches.Stretch.settle.Given as goal
 
 abbrev pub invariant-loop-i : goal.invariant-loop-i
 invariant-loop-i l = record {

@@ -1,10 +1,9 @@
-//! Where stretches end.
+//! Where the stretches end that the workers of a crew draw.
 ghost use Rattle.std.specs.Prelude.{◌<◌, IfOk};
 ghost use Rattle.list_cuts.specs.Cuts.{AreCuts};
 
-use chunk_seats::Plan;
-use list_cuts::even_cuts;
-use par_passes::Passes;
+use crate::cuts::even_cuts;
+use chunk_seats::{Crew, Plan};
 use std::alloc::AllocError;
 
 // How long a stretch is: so that each worker has that many shares, and never shorter than a chunk. One worker takes all.
@@ -21,11 +20,7 @@ fn stretch_size(places: usize, plan: &Plan, shares: u32) -> usize
 
 /// Where the stretches end in which a crew takes so many places: so many for each worker, since some take longer than others. The only refusal is that
 /// memory is out.
-pub fn stretch_ends(
-    crew: &impl Passes,
-    places: usize,
-    shares: u32,
-) -> Result<Vec<usize>, AllocError>
+pub fn stretch_ends(crew: &impl Crew, places: usize, shares: u32) -> Result<Vec<usize>, AllocError>
     requires { 0 < shares }
     ensures { IfOk result (λ v. AreCuts v.items places) }
 {
