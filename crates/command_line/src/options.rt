@@ -10,54 +10,48 @@ use clap::builder::ValueParser;
 use clap::{Arg, ArgAction, Command, value_parser};
 use std::alloc::{AllocError, Global};
 
-// A value that stands by itself.
-#[inline(never)]
-fn plain_value<'a>(
-    alloc: Global,
+// What help says of a value: its name, the letter that stands for it, and what it is.
+#[derive(Clone, Copy)]
+struct Described<'a> {
     name: &'a str,
     letter: &'a str,
-    values: ValueParser<'a>,
     help: &'a str,
-) -> Arg<'a>
-    ensures rule { rule_of result ≡ plain_value name.entry.now values.entry }
+}
+
+// A value that stands by itself.
+#[inline(never)]
+fn plain_value<'a>(alloc: Global, described: Described<'a>, values: ValueParser<'a>) -> Arg<'a>
+    ensures rule { rule_of result ≡ plain_value described.entry.name.now values.entry }
     ensures local { result.global ≡ false }
 {
-    Arg::new(alloc, name)
+    Arg::new(alloc, described.name)
         .action(ArgAction::Set)
-        .value_name(letter)
+        .value_name(described.letter)
         .value_parser(values)
-        .help(help)
+        .help(described.help)
 }
 
 // An option `--name N` with a value.
 #[inline(never)]
-fn value_option<'a>(
-    alloc: Global,
-    name: &'a str,
-    letter: &'a str,
-    values: ValueParser<'a>,
-    help: &'a str,
-) -> Arg<'a>
-    ensures rule { rule_of result ≡ value_option name.entry.now values.entry }
+fn value_option<'a>(alloc: Global, described: Described<'a>, values: ValueParser<'a>) -> Arg<'a>
+    ensures rule { rule_of result ≡ value_option described.entry.name.now values.entry }
     ensures local { result.global ≡ false }
 {
-    plain_value(alloc, name, letter, values, help).long(name)
+    plain_value(alloc, described, values).long(described.name)
 }
 
 // An option with a number, and its default.
 #[inline(never)]
 fn default_option<'a>(
     alloc: Global,
-    name: &'a str,
-    letter: &'a str,
+    described: Described<'a>,
     numbers: ValueParser<'a>,
     default: &'a str,
-    help: &'a str,
 ) -> Arg<'a>
-    ensures rule { rule_of result ≡ with_default (value_option name.entry.now numbers.entry) default.entry.now }
+    ensures rule { rule_of result ≡ with_default (value_option described.entry.name.now numbers.entry) default.entry.now }
     ensures local { result.global ≡ false }
 {
-    value_option(alloc, name, letter, numbers, help).default_value(default)
+    value_option(alloc, described, numbers).default_value(default)
 }
 
 // A flag `--name`.
@@ -74,32 +68,20 @@ fn flag_option<'a>(alloc: Global, name: &'a str, help: &'a str) -> Arg<'a>
 
 // A number that stands by itself, and has to be given.
 #[inline(never)]
-fn required_value<'a>(
-    alloc: Global,
-    name: &'a str,
-    letter: &'a str,
-    numbers: ValueParser<'a>,
-    help: &'a str,
-) -> Arg<'a>
-    ensures rule { rule_of result ≡ required (plain_value name.entry.now numbers.entry) }
+fn required_value<'a>(alloc: Global, described: Described<'a>, numbers: ValueParser<'a>) -> Arg<'a>
+    ensures rule { rule_of result ≡ required (plain_value described.entry.name.now numbers.entry) }
     ensures local { result.global ≡ false }
 {
-    plain_value(alloc, name, letter, numbers, help).required(true)
+    plain_value(alloc, described, numbers).required(true)
 }
 
 // An option with a value, which has to be given.
 #[inline(never)]
-fn required_option<'a>(
-    alloc: Global,
-    name: &'a str,
-    letter: &'a str,
-    numbers: ValueParser<'a>,
-    help: &'a str,
-) -> Arg<'a>
-    ensures rule { rule_of result ≡ required (value_option name.entry.now numbers.entry) }
+fn required_option<'a>(alloc: Global, described: Described<'a>, numbers: ValueParser<'a>) -> Arg<'a>
+    ensures rule { rule_of result ≡ required (value_option described.entry.name.now numbers.entry) }
     ensures local { result.global ≡ false }
 {
-    value_option(alloc, name, letter, numbers, help).required(true)
+    value_option(alloc, described, numbers).required(true)
 }
 
 #[inline(never)]
@@ -108,8 +90,12 @@ fn workers<'a>(alloc: Global) -> Arg<'a>
     ensures local { result.global ≡ false }
 {
     let numbers = value_parser!(u64).range(1..=64);
-    let help = "Threads that share the work, 1 to 64";
-    default_option(alloc, "workers", "N", numbers, "4", help)
+    let described = Described {
+        name: "workers",
+        letter: "N",
+        help: "Threads that share the work, 1 to 64",
+    };
+    default_option(alloc, described, numbers, "4")
 }
 
 #[inline(never)]
@@ -118,8 +104,12 @@ fn chunk<'a>(alloc: Global) -> Arg<'a>
     ensures local { result.global ≡ false }
 {
     let numbers = value_parser!(u64).range(1..=65_536);
-    let help = "Items that a thread draws at a time, 1 to 65536";
-    default_option(alloc, "chunk", "C", numbers, "1024", help)
+    let described = Described {
+        name: "chunk",
+        letter: "C",
+        help: "Items that a thread draws at a time, 1 to 65536",
+    };
+    default_option(alloc, described, numbers, "1024")
 }
 
 #[inline(never)]
@@ -128,8 +118,12 @@ fn steps<'a>(alloc: Global) -> Arg<'a>
     ensures local { result.global ≡ false }
 {
     let numbers = value_parser!(u64).range(0..=1_000_000_000);
-    let help = "Steps after which the machine stops, 0 to 1000000000";
-    default_option(alloc, "steps", "M", numbers, "1000000", help)
+    let described = Described {
+        name: "steps",
+        letter: "M",
+        help: "Steps after which the machine stops, 0 to 1000000000",
+    };
+    default_option(alloc, described, numbers, "1000000")
 }
 
 #[inline(never)]
@@ -146,8 +140,12 @@ fn seed<'a>(alloc: Global) -> Arg<'a>
     ensures local { result.global ≡ false }
 {
     let numbers = value_parser!(u64).range(0..=4_294_967_295);
-    let help = "What the numbers of the text are drawn from, 0 to 4294967295";
-    required_option(alloc, "seed", "S", numbers, help)
+    let described = Described {
+        name: "seed",
+        letter: "S",
+        help: "What the numbers of the text are drawn from, 0 to 4294967295",
+    };
+    required_option(alloc, described, numbers)
 }
 
 #[inline(never)]
@@ -156,8 +154,12 @@ fn functions<'a>(alloc: Global) -> Arg<'a>
     ensures local { result.global ≡ false }
 {
     let numbers = value_parser!(u64).range(1..=4096);
-    let help = "Functions of the text beside main, 1 to 4096";
-    required_option(alloc, "functions", "K", numbers, help)
+    let described = Described {
+        name: "functions",
+        letter: "K",
+        help: "Functions of the text beside main, 1 to 4096",
+    };
+    required_option(alloc, described, numbers)
 }
 
 #[inline(never)]
@@ -165,8 +167,12 @@ fn word<'a>(alloc: Global) -> Arg<'a>
     ensures rule { rule_of result ≡ word_option }
     ensures local { result.global ≡ false }
 {
-    let help = "Parse this word: names separated by spaces";
-    value_option(alloc, "word", "W", value_parser!(String), help)
+    let described = Described {
+        name: "word",
+        letter: "W",
+        help: "Parse this word: names separated by spaces",
+    };
+    value_option(alloc, described, value_parser!(String))
 }
 
 #[inline(never)]
@@ -183,9 +189,12 @@ fn pass<'a>(alloc: Global) -> Arg<'a>
     ensures rule { rule_of result ≡ pass_option }
     ensures local { result.global ≡ false }
 {
-    let help =
-        "Pass whose arrays are shown [possible values: states, tokens, pairs, parse, rows, names, types, frames, places, code, all]";
-    value_option(alloc, "pass", "PASS", value_parser!(String), help)
+    let described = Described {
+        name: "pass",
+        letter: "PASS",
+        help: "Pass whose arrays are shown [possible values: states, tokens, pairs, parse, rows, names, types, frames, places, code, all]",
+    };
+    value_option(alloc, described, value_parser!(String))
 }
 
 #[inline(never)]
@@ -203,8 +212,12 @@ fn code<'a>(alloc: Global) -> Arg<'a>
     ensures local { result.global ≡ false }
 {
     let numbers = value_parser!(u64).range(100..=999);
-    let help = "What the line of the diagnostic names, as 504 in `error 504 at 2:5`";
-    required_value(alloc, "code", "CODE", numbers, help)
+    let described = Described {
+        name: "code",
+        letter: "CODE",
+        help: "What the line of the diagnostic names, as 504 in `error 504 at 2:5`",
+    };
+    required_value(alloc, described, numbers)
 }
 
 // The command, on the heap.

@@ -1,17 +1,15 @@
--- The program that is compiled, with its constants folded or as it is: its rows and names, and all that its code is made of.
+-- The program that is compiled, with its constants folded or as it is: its rows and names.
 use Rattle.std.proofs.Common.{◌≡◌, ◌∙◌, ℕ, Bool, false, List, [], length, Result, Ok, Err, sym, ap, subst}
 use Rattle.std.specs.Prelude.{IfErr, IsErrAnd}
 use Rattle.source_meaning.specs.Ast.{Program}
-use Rattle.source_meaning.specs.Frames.{Frame, depths}
 use Rattle.source_meaning.specs.Grammar.{Tree, Prog, ast}
 use Rattle.source_meaning.specs.Lexemes.{tokens}
-use Rattle.source_meaning.specs.Rows.{Row, post}
-use Rattle.source_meaning.specs.Shape.{shape_faults}
+use Rattle.source_meaning.specs.Rows.{Row}
 use Rattle.ast_rows.specs.NameRows.{NameRows}
 use Rattle.front_end.specs.Front.{AreNamesOf, IsAnalysis, IsChecked}
 use Rattle.front_end.specs.declared.analysis.Analysis.{Analysis}
 use Rattle.verdict.specs.Verdict.{folded_if}
-use Rattle.pareas_core.specs.Coded.{AreFrames, AreRowsOf, IsClean, IsCoded}
+use Rattle.pareas_core.specs.Coded.{AreRowsOf, IsClean}
 
 -- what a `?` hands on
 pub handed_on : {A E : Type 0} (P : E → Type 0) (r : Result A E) (f : E) → IsErrAnd r (λ e. e ≡ f) → P f → IfErr r P
@@ -30,18 +28,6 @@ of_analysis text t a rows names k e f = record {
 module _ (fold : Bool) (text : List ℕ) (t : Tree Prog) (a : Analysis) (k : IsAnalysis text t a) (old rows : List Row) (named names : NameRows) (rows_are : old ≡ a.rows) (names_are : named ≡ a.names)
     (clean : (b : Bool) (text : List ℕ) (t : Tree Prog) → IsChecked text t → IsClean (length (tokens text)) (folded_if b (ast t)))
     (compiled : (p : Program) (end : ℕ) → IsClean end p → AreRowsOf p old named → AreRowsOf (folded_if fold p) rows names) where
-  abbrev chosen : Program
-  chosen = folded_if fold (ast t)
-
   -- the rows and the names of the program that is compiled
   pub rows_of : AreRowsOf (folded_if fold (ast t)) rows names
   rows_of = compiled (ast t) (length (tokens text)) (clean false text t k.checked) (of_analysis text t a old named k rows_are names_are)
-
-  module _ (deep : List ℕ) (told : (p : Program) → shape_faults p ≡ [] → rows ≡ post p → deep ≡ depths p) where
-    -- its depths, lent to a call
-    pub depths_of : (lent : List ℕ) → lent ≡ deep → lent ≡ depths (folded_if fold (ast t))
-    depths_of lent e = e ∙ told chosen (clean fold text t k.checked).shaped rows_of.rows_are
-
-    -- all that its code is made of
-    pub coded : (lent : List ℕ) (frames : List Frame) → lent ≡ deep → AreFrames (folded_if fold (ast t)) frames → IsCoded fold text t rows names lent frames
-    coded lent frames e framed = record { checked = k.checked; are = rows_of; depths_are = depths_of lent e; framed = framed }

@@ -1,19 +1,18 @@
 -- The first frame that is too large, and frames where there is none.
-use Rattle.std.proofs.Common.{◌≡◌, ℕ, zero, suc, ◌<◌, ◌≤◌, Bool, true, false, List, [], ◌∷◌, length, Option, Some, None, nat_lt, if◌then◌else◌, refl, ap, arith}
+use Rattle.std.proofs.Common.{◌≡◌, ℕ, zero, suc, ◌<◌, ◌≤◌, Bool, true, false, List, [], ◌∷◌, length, Option, Some, None, nat_lt, if◌then◌else◌, refl, ap, ◌∙◌, arith}
 use Rattle.std.specs.Prelude.{option_map}
 use Rattle.std.specs.List.{find}
 use Rattle.std.proofs.lemmas.Bool.Decides.{nat_tests}
 use Rattle.limits.specs.Limits.{most_frame}
 use Rattle.source_meaning.specs.Ast.{Function, Program}
-use Rattle.source_meaning.specs.Frames.{Frame, frame}
+use Rattle.source_meaning.specs.Frames.{frame}
 use Rattle.source_meaning.specs.Grammar.{Tree, Prog, ast}
 use Rattle.source_meaning.specs.Lexemes.{tokens}
-use Rattle.source_meaning.specs.Rows.{Row}
-use Rattle.ast_rows.specs.NameRows.{NameRows}
 use Rattle.code_rules.specs.RowTables.{frame_in}
 use Rattle.rv_emit.specs.Compilable.{IsCompilable}
 use Rattle.verdict.specs.Verdict.{folded_if}
-use Rattle.pareas_core.specs.Coded.{IsClean, IsCoded}
+use Rattle.pareas_core.specs.Coded.{IsClean, IsFramed}
+use Rattle.pareas_core.specs.declared.coding.Framed.{Framed}
 
 abbrev large : Function → Bool
 large f = nat_lt most_frame (frame f).bytes
@@ -49,18 +48,18 @@ frames_small [] e j h = absurd (omega arith)
 frames_small (f ∷ fs) e zero h = let b = (first_not f fs e).0 in grind (arith, nat_tests)
 frames_small (f ∷ fs) e (suc j) h = frames_small fs (first_not f fs e).1 j (omega arith)
 
--- the program of a source, with its depths and frames, has code
-pub compilable : (fold : Bool) (text : List ℕ) (t : Tree Prog) (rows : List Row) (names : NameRows) (deep : List ℕ) (frames : List Frame) → IsCoded fold text t rows names deep frames → IsClean (length (tokens text)) (folded_if fold (ast t))
-    → IsCompilable (folded_if fold (ast t)) rows names deep frames
-compilable fold text t rows names deep frames c clean = record {
-  rows_are = c.are.rows_are;
+-- the program of a source, with its frames, has code, where its depths are lent
+pub compilable : (fold : Bool) (text : List ℕ) (t : Tree Prog) (framed : Framed) (lent : List ℕ) → lent ≡ framed.depths.items → IsFramed fold text t framed → IsClean (length (tokens text)) (folded_if fold (ast t))
+    → IsCompilable (folded_if fold (ast t)) framed.rows framed.names lent framed.frames
+compilable fold text t framed lent e is clean = record {
+  rows_are = is.are.rows_are;
   shaped = clean.shaped;
-  named = record { names = c.are.names_are; end = length (tokens text); faultless = clean.scoped };
-  meant_many = c.are.meant_many;
-  numbers_many = c.are.numbers_many;
+  named = record { names = is.are.names_are; end = length (tokens text); faultless = clean.scoped };
+  meant_many = is.are.meant_many;
+  numbers_many = is.are.numbers_many;
   typed = clean.typed;
   small = clean.small;
-  framed = frames_small (folded_if fold (ast t)) c.framed.none_large;
-  depths_are = c.depths_are;
-  frames_are = c.framed.frames_are;
+  framed = frames_small (folded_if fold (ast t)) is.frames.none_large;
+  depths_are = e ∙ is.depths_are;
+  frames_are = is.frames.frames_are;
 }

@@ -16,6 +16,7 @@ use Rattle.code_rules.specs.Reach.{IsSmall}
 use Rattle.front_end.specs.Front.{AreNamesOf, IsChecked}
 use Rattle.rv_code.specs.Code.{layout_of, words}
 use Rattle.verdict.specs.Verdict.{folded_if}
+use Rattle.pareas_core.specs.declared.coding.Framed.{Framed}
 use Rattle.pareas_core.specs.declared.coding.LaidOut.{LaidOut}
 
 -- a program without a fault of the phases up to types, whose numbers are words
@@ -37,12 +38,12 @@ pub record AreFrames (p : Program) (frames : List Frame) : Type 0 where
   pub frames_are : frames ≡ map (λ f. frame f) p
   pub none_large : find (λ f. nat_lt most_frame (frame f).bytes) p ≡ None
 
--- all that the code of a source's program is made of, with its constants folded or as they are
-pub record IsCoded (fold : Bool) (text : List ℕ) (t : Tree Prog) (rows : List Row) (names : NameRows) (deep : List ℕ) (frames : List Frame) : Type 0 where
+-- a source's program up to its frames, with its constants folded or as it is
+pub record IsFramed (fold : Bool) (text : List ℕ) (t : Tree Prog) (framed : Framed) : Type 0 where
   pub checked : IsChecked text t
-  pub are : AreRowsOf (folded_if fold (ast t)) rows names
-  pub depths_are : deep ≡ depths (folded_if fold (ast t))
-  pub framed : AreFrames (folded_if fold (ast t)) frames
+  pub are : AreRowsOf (folded_if fold (ast t)) framed.rows framed.names
+  pub depths_are : framed.depths.items ≡ depths (folded_if fold (ast t))
+  pub frames : AreFrames (folded_if fold (ast t)) framed.frames
 
 -- the sizes and places of the pieces of a program's rows, and its words
 pub record AreLaidOut (p : Program) (laid : LaidOut) : Type 0 where

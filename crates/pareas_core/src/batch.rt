@@ -144,14 +144,7 @@ pub fn deal<R: Threads + Sync, G: Gate>(
         requires { AreTablesOf grammar tables.now × IsReduced grammar × (number < length places.now) }
         ensures { IfOk result (λ answer. IsFound (map (source_at input.entry.now) places.entry.now) (number, answer)) }
     { answer_record(crew, tables, input, places, number) };
-    let found = make_each(
-        crew,
-        board,
-        seat,
-        crew.plan.workers,
-        places.len() as u64,
-        &make,
-    )?;
+    let found = make_each(crew, board, seat, crew.plan.workers, &make)?;
     Ok(Answers { found })
 }
 

@@ -10,7 +10,7 @@ ghost use Rattle.folding.specs.Folding.{folded_program};
 ghost use Rattle.rv_code.specs.Code.{most_long, words as words_of};
 ghost use Rattle.front_end.specs.Front.{AreTokens, IsAnalysis, IsChecked, IsRefusedBy, TellsThat};
 ghost use Rattle.verdict.specs.Verdict.{Accepted, IsVerdict, folded_if};
-ghost use Rattle.pareas_core.specs.Coded.{AreFrames, AreLaidOut, AreRowsOf, IsClean, IsCoded};
+ghost use Rattle.pareas_core.specs.Coded.{AreFrames, AreLaidOut, AreRowsOf, IsClean, IsFramed};
 
 use crate::clean::compiled_programs_are_clean;
 use ast_rows::{Names, Rows, Tokens};
@@ -99,7 +99,7 @@ pub(crate) fn frames_or_limit(
 }
 
 // The same. The tokens, which tell the place of a frame that is too large, end here.
-fn framed(
+fn make_frames(
     crew: &impl Passes,
     source: &[u8],
     tokens: Tokens,
@@ -116,25 +116,41 @@ fn framed(
     frames_or_limit(crew, source, &tokens, rows, depths)
 }
 
+/// A program up to its frames: all that its code is made of.
+#[derive(Drop)]
+pub(crate) struct Framed {
+    /// The rows of its syntax tree.
+    pub(crate) rows: Rows,
+    /// What its names mean.
+    pub(crate) names: Names,
+    /// The depth of each row.
+    pub(crate) depths: Vec<u32>,
+    /// The frames of its functions.
+    pub(crate) frames: Frames,
+}
+
 /// The words of the program, or the limit that they pass.
 pub(crate) fn emitted(
     crew: &impl Passes,
     source: &[u8],
-    rows: &Rows,
-    names: Names,
-    depths: &[u32],
-    frames: &Frames,
+    framed: Framed,
 ) -> Result<Vec<u32>, Refusal>
-    requires nodes { length rows.now ≤ most_rows }
-    requires coded { (fold : Bool) × (t : Tree Prog) × IsCoded fold source.now t rows.now names depths.now frames.now }
-    ensures ok { IfOk result (λ v. (fold : Bool) (t : Tree Prog) → IsCoded fold source.now t rows.now names depths.now frames.now
+    requires nodes { length framed.rows ≤ most_rows }
+    requires framed { (fold : Bool) × (t : Tree Prog) × IsFramed fold source.now t framed }
+    ensures ok { IfOk result (λ v. (fold : Bool) (t : Tree Prog) → IsFramed fold source.now t framed
         → IsVerdict fold source.now (Accepted (folded_if fold (ast t))) × (v.items ≡ words_of (folded_if fold (ast t)))) }
     ensures few { IfOk result (λ v. length v.items ≤ most_long) }
-    ensures refused { (fold : Bool) (t : Tree Prog) → IsCoded fold source.now t rows.now names depths.now frames.now → IfErr result (IsRefusedBy fold source.now) }
+    ensures refused { (fold : Bool) (t : Tree Prog) → IsFramed fold source.now t framed → IfErr result (IsRefusedBy fold source.now) }
 {
     limits_come_last();
     compiled_programs_are_clean();
-    match rv_emit::code(crew, rows, names, depths, frames) {
+    let Framed {
+        rows,
+        names,
+        depths,
+        frames,
+    } = framed;
+    match rv_emit::code(crew, &rows, names, &depths, &frames) {
         Ok(words) => Ok(words),
         Err(CodeFault::Large { bytes }) => Err(Refusal::Limit {
             code: 603,
@@ -157,21 +173,24 @@ pub(crate) struct LaidOut {
 pub(crate) fn laid_out(
     crew: &impl Passes,
     source: &[u8],
-    rows: &Rows,
-    names: Names,
-    depths: &[u32],
-    frames: &Frames,
+    framed: &Framed,
 ) -> Result<LaidOut, Refusal>
-    requires nodes { length rows.now ≤ most_rows }
-    requires coded { (t : Tree Prog) × IsCoded false source.now t rows.now names depths.now frames.now }
-    ensures ok { IfOk result (λ laid. (t : Tree Prog) → IsCoded false source.now t rows.now names depths.now frames.now
+    requires nodes { length framed.now.rows ≤ most_rows }
+    requires framed { (t : Tree Prog) × IsFramed false source.now t framed.now }
+    ensures ok { IfOk result (λ laid. (t : Tree Prog) → IsFramed false source.now t framed.now
         → IsVerdict false source.now (Accepted (ast t)) × AreLaidOut (ast t) laid) }
     ensures few { IfOk result (λ laid. length laid.words.items ≤ most_long) }
-    ensures refused { (t : Tree Prog) → IsCoded false source.now t rows.now names depths.now frames.now → IfErr result (IsRefusedBy false source.now) }
+    ensures refused { (t : Tree Prog) → IsFramed false source.now t framed.now → IfErr result (IsRefusedBy false source.now) }
 {
     limits_come_last();
     compiled_programs_are_clean();
-    let columns = code_columns(crew, rows, &names, depths, frames)?;
+    let columns = code_columns(
+        crew,
+        &framed.rows,
+        &framed.names,
+        &framed.depths,
+        &framed.frames,
+    )?;
     let sizes = sizes(crew, &columns)?;
     let places = places(crew, &columns, &sizes)?;
     match emit(crew, &columns, &places) {
@@ -206,6 +225,12 @@ pub fn code(
     let (tokens, rows, names) = parts(analysis);
     let (rows, names) = compiled(crew, rows, names, fold)?;
     let depths = depths(crew, &rows)?;
-    let frames = framed(crew, source, tokens, &rows, &depths)?;
-    emitted(crew, source, &rows, names, &depths, &frames)
+    let frames = make_frames(crew, source, tokens, &rows, &depths)?;
+    let program = Framed {
+        rows,
+        names,
+        depths,
+        frames,
+    };
+    emitted(crew, source, program)
 }

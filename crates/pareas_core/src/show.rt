@@ -1,4 +1,5 @@
-// What the passes of the compiler make of a source, as tables of text and as a page.
+// What the passes of the compiler make of a source, as tables of text and as a page. What makes the arrays of a pass has a stack frame of its own, so that
+// those of other passes don't lie on the stack beside it.
 
 ghost use Rattle.std.specs.Prelude.{◌≡◌, ◌≢◌, ◌++◌, ◌∷◌, ◌≤◌, [], ℕ, List, Option, false, codes, flat_map, length, map, IfErr, IfOk, OnOk};
 ghost use Rattle.command_line.specs.declared.command.Command.TheVariants as commands;
@@ -19,7 +20,7 @@ ghost use Rattle.verdict.specs.Verdict.{Accepted, IsVerdict};
 ghost use Rattle.pareas_core.specs.Responses.{AreNone, IsResponse, IsUnpaged, IsUnshown, Stops, arrays_of};
 ghost use Rattle.pareas_core.specs.Shown.{AreAllArrays, Arrays, IsLexed, IsPage, IsParsed, IsScoped, IsShaped, Shows, all_tables, apart, headed, named_arrays};
 
-use crate::coding::{LaidOut, frames_or_limit, laid_out, parts};
+use crate::coding::{Framed, LaidOut, frames_or_limit, laid_out, parts};
 use crate::listing::written;
 use crate::response::{Response, refused};
 use ast_rows::{Names, Rows, Tokens};
@@ -102,6 +103,7 @@ fn arrays_of_states(alloc: Global, source: &[u8]) -> Result<Vec<Column>, AllocEr
 }
 
 // The same of a source that isn't too large.
+#[inline(never)]
 fn state_arrays(crew: &impl Passes, source: &[u8]) -> Result<Vec<Column>, Refusal>
     ensures shown { IfOk result (λ columns. Arrays source.now passes.States columns.items) }
     ensures stopped { IfErr result (AreNone source.now passes.States) }
@@ -111,6 +113,7 @@ fn state_arrays(crew: &impl Passes, source: &[u8]) -> Result<Vec<Column>, Refusa
 }
 
 // The arrays of the tokens.
+#[inline(never)]
 fn token_arrays(crew: &impl Passes, source: &[u8]) -> Result<Vec<Column>, Refusal>
     ensures shown { IfOk result (λ columns. Arrays source.now passes.Tokens columns.items) }
     ensures stopped { IfErr result (AreNone source.now passes.Tokens) }
@@ -143,6 +146,7 @@ fn arrays_of_pairs(alloc: Global, kinds: &[Terminal]) -> Result<Vec<Column>, All
 }
 
 // The arrays of the pairs.
+#[inline(never)]
 fn pair_arrays(crew: &impl Passes, source: &[u8]) -> Result<Vec<Column>, Refusal>
     ensures shown { IfOk result (λ columns. Arrays source.now passes.Pairs columns.items) }
     ensures stopped { IfErr result (AreNone source.now passes.Pairs) }
@@ -160,6 +164,7 @@ fn production_arrays(alloc: Global, productions: &[u16]) -> Result<Vec<Column>, 
 }
 
 // The arrays of the left parse.
+#[inline(never)]
 fn parse_arrays(crew: &impl Passes, source: &[u8]) -> Result<Vec<Column>, Refusal>
     ensures shown { IfOk result (λ columns. Arrays source.now passes.Parse columns.items) }
     ensures stopped { IfErr result (AreNone source.now passes.Parse) }
@@ -169,6 +174,7 @@ fn parse_arrays(crew: &impl Passes, source: &[u8]) -> Result<Vec<Column>, Refusa
 }
 
 // The arrays of the rows.
+#[inline(never)]
 fn row_arrays(crew: &impl Passes, source: &[u8]) -> Result<Vec<Column>, Refusal>
     ensures shown { IfOk result (λ columns. Arrays source.now passes.Rows columns.items) }
     ensures stopped { IfErr result (AreNone source.now passes.Rows) }
@@ -178,6 +184,7 @@ fn row_arrays(crew: &impl Passes, source: &[u8]) -> Result<Vec<Column>, Refusal>
 }
 
 // The arrays of the names.
+#[inline(never)]
 fn name_arrays(crew: &impl Passes, source: &[u8]) -> Result<Vec<Column>, Refusal>
     ensures shown { IfOk result (λ columns. Arrays source.now passes.Names columns.items) }
     ensures stopped { IfErr result (AreNone source.now passes.Names) }
@@ -189,6 +196,7 @@ fn name_arrays(crew: &impl Passes, source: &[u8]) -> Result<Vec<Column>, Refusal
 }
 
 // The arrays of the types.
+#[inline(never)]
 fn type_arrays(crew: &impl Passes, source: &[u8]) -> Result<Vec<Column>, Refusal>
     ensures shown { IfOk result (λ columns. Arrays source.now passes.Types columns.items) }
     ensures stopped { IfErr result (AreNone source.now passes.Types) }
@@ -200,6 +208,7 @@ fn type_arrays(crew: &impl Passes, source: &[u8]) -> Result<Vec<Column>, Refusal
 }
 
 // The arrays of the frames.
+#[inline(never)]
 fn frame_arrays(crew: &impl Passes, source: &[u8]) -> Result<Vec<Column>, Refusal>
     ensures shown { IfOk result (λ columns. Arrays source.now passes.Frames columns.items) }
     ensures stopped { IfErr result (AreNone source.now passes.Frames) }
@@ -229,6 +238,7 @@ struct CodeArrays {
 }
 
 // These arrays.
+#[inline(never)]
 fn arrays_of_code(
     crew: &impl Passes,
     source: &[u8],
@@ -245,15 +255,22 @@ fn arrays_of_code(
     let (tokens, rows, names) = parts(analysis);
     let depths = depths(crew, &rows)?;
     let frames = frames_or_limit(crew, source, &tokens, &rows, &depths)?;
+    let program = Framed {
+        rows,
+        names,
+        depths,
+        frames,
+    };
     let LaidOut {
         sizes,
         places,
         words,
-    } = laid_out(crew, source, &rows, names, &depths, &frames)?;
+    } = laid_out(crew, source, &program)?;
+    let alloc = crew.alloc();
     Ok(CodeArrays {
-        frames: frame_columns(crew.alloc(), source, &tokens, &rows, &frames)?,
-        places: place_columns(crew.alloc(), &rows, &depths, &sizes, &places)?,
-        code: code_columns(crew.alloc(), &words)?,
+        frames: frame_columns(alloc, source, &tokens, &program.rows, &program.frames)?,
+        places: place_columns(alloc, &program.rows, &program.depths, &sizes, &places)?,
+        code: code_columns(alloc, &words)?,
     })
 }
 
@@ -269,6 +286,7 @@ fn coded(crew: &impl Passes, source: &[u8]) -> Result<CodeArrays, Refusal>
 }
 
 // The arrays of the places.
+#[inline(never)]
 fn place_arrays(crew: &impl Passes, source: &[u8]) -> Result<Vec<Column>, Refusal>
     ensures shown { IfOk result (λ columns. Arrays source.now passes.Places columns.items) }
     ensures stopped { IfErr result (AreNone source.now passes.Places) }
@@ -278,6 +296,7 @@ fn place_arrays(crew: &impl Passes, source: &[u8]) -> Result<Vec<Column>, Refusa
 }
 
 // The arrays of the code.
+#[inline(never)]
 fn code_arrays(crew: &impl Passes, source: &[u8]) -> Result<Vec<Column>, Refusal>
     ensures shown { IfOk result (λ columns. Arrays source.now passes.Code columns.items) }
     ensures stopped { IfErr result (AreNone source.now passes.Code) }
@@ -319,6 +338,7 @@ struct InnerArrays {
 }
 
 // These arrays, of a source whose tokens have a parse tree.
+#[inline(never)]
 fn inner_arrays(alloc: Global, source: &[u8], tokens: &Tokens) -> Result<InnerArrays, AllocError>
     requires lexed { AreTokens source.now tokens.now }
     requires parsed { (t : Tree Prog) × (leaves t ≡ tokens_in source.now) }
@@ -332,6 +352,7 @@ fn inner_arrays(alloc: Global, source: &[u8], tokens: &Tokens) -> Result<InnerAr
 }
 
 // The first arrays, with what the passes behind them take. The left parse ends here.
+#[inline(never)]
 fn arrays_to_rows(
     crew: &impl Passes,
     source: &[u8],
@@ -355,6 +376,7 @@ fn arrays_to_rows(
 }
 
 // The arrays behind them, with all that is known of the source before its code is made.
+#[inline(never)]
 fn arrays_of_meaning(
     crew: &impl Passes,
     source: &[u8],
@@ -425,6 +447,7 @@ fn joined(alloc: Global, inner: &InnerArrays, arrays: &PageArrays) -> Result<Vec
 }
 
 // The tables of all passes, in one run of them.
+#[inline(never)]
 fn all(crew: &impl Passes, source: &[u8]) -> Result<Vec<u8>, Refusal>
     ensures shown { IfOk result (λ text. Shows source.now passes.All text.items) }
     ensures stopped { IfErr result (IsUnshown source.now passes.All) }
@@ -498,6 +521,7 @@ fn drawn(alloc: Global, source: &[u8], tokens: &Tokens, rows: &Rows) -> Result<V
 }
 
 // Writes the tables of the page, and its end.
+#[inline(never)]
 fn push_tables(page: &mut Vec<u8>, arrays: &PageArrays) -> Result<(), AllocError>
     ensures { (states pairs : List AnyColumn) → OnOk result (page.new.items
         ≡ page.old.items ++ flat_map (λ t. table_box t.0 t.1) (named_arrays (arrays_of states pairs arrays.now)) ++ closing) }
@@ -514,6 +538,7 @@ fn push_tables(page: &mut Vec<u8>, arrays: &PageArrays) -> Result<(), AllocError
 }
 
 // The page of the source.
+#[inline(never)]
 fn paged(crew: &impl Passes, source: &[u8]) -> Result<Vec<u8>, Refusal>
     ensures paged { IfOk result (λ page. IsPage source.now page.items) }
     ensures stopped { IfErr result (IsUnpaged source.now) }

@@ -4,8 +4,8 @@ use Rattle.source_meaning.specs.Grammar.{ast}
 use Rattle.front_end.specs.Front.{IsRefusedBy}
 use Rattle.front_end.specs.Laws.Counting.{tree_few}
 use Rattle.verdict.specs.Verdict.{folded_if}
-use Rattle.pareas_core.specs.Coded.{AreFrames, AreRowsOf, IsCoded}
-use Rattle.pareas_core.proofs.Chosen.{coded, depths_of, handed_on, rows_of}
+use Rattle.pareas_core.specs.Coded.{AreRowsOf}
+use Rattle.pareas_core.proofs.Chosen.{handed_on, rows_of}
 use Rattle.pareas_core.proofs.coding.code.Goals as goal
 
 pub compiled-requires-clause-nodes : goal.compiled-requires-clause-nodes
@@ -16,27 +16,25 @@ compiled-requires-clause-nodes g c κs within =
     let same = ap length c.parts-tokens.ensures.rows in
     omega arith
 
-pub framed-requires-clause-lexed : goal.framed-requires-clause-lexed
-framed-requires-clause-lexed g c κs within =
+pub make_frames-requires-clause-lexed : goal.make_frames-requires-clause-lexed
+make_frames-requires-clause-lexed g c κs within =
     let a = c.requires.analyzed.1 in
     record { fits = a.checked.fits; lexical = a.checked.lexical; are = c.parts-tokens.ensures.tokens ∙ a.tokens_are }
 
-pub emitted-requires-clause-coded : goal.emitted-requires-clause-coded
-emitted-requires-clause-coded g c κs within =
+pub emitted-requires-clause-framed : goal.emitted-requires-clause-framed
+emitted-requires-clause-framed g c κs within =
     let fold = c.args.fold in
     let text = c.args.source.now in
     let t = c.requires.analyzed.0 in
     let a = c.requires.analyzed.1 in
-    let are : AreRowsOf (folded_if fold (ast t)) c.in_ok-rows.rows c.in_ok-rows.names =
+    let p = folded_if fold (ast t) in
+    let are : AreRowsOf p c.in_ok-rows.rows c.in_ok-rows.names =
     rows_of fold text t c.args.analysis a c.parts-tokens.result.1 c.in_ok-rows.rows c.parts-tokens.result.2 c.in_ok-rows.names c.parts-tokens.ensures.rows c.parts-tokens.ensures.names c.compiled_programs_are_clean.ensures c.in_ok-rows.ensures.are in
-    let framed : AreFrames (folded_if fold (ast t)) c.in_ok-frames.frames =
-    c.in_ok-frames.ensures.ok fold t a.checked are.rows_are
-    (depths_of fold text t c.args.analysis a c.parts-tokens.result.1 c.in_ok-rows.rows c.parts-tokens.result.2 c.in_ok-rows.names c.parts-tokens.ensures.rows c.parts-tokens.ensures.names c.compiled_programs_are_clean.ensures c.in_ok-rows.ensures.are
-    c.in_ok-depths.depths.items c.in_ok-depths.ensures c.deref.result.now c.deref.ensures.value) in (
+    let deep = c.in_ok-depths.ensures p (c.compiled_programs_are_clean.ensures fold text t a.checked).shaped are.rows_are in
+    let frames = c.in_ok-frames.ensures.ok fold t a.checked are.rows_are (c.deref.ensures.value ∙ deep) in (
       fold,
       t,
-      coded fold text t c.args.analysis a c.parts-tokens.result.1 c.in_ok-rows.rows c.parts-tokens.result.2 c.in_ok-rows.names c.parts-tokens.ensures.rows c.parts-tokens.ensures.names c.compiled_programs_are_clean.ensures c.in_ok-rows.ensures.are
-          c.in_ok-depths.depths.items c.in_ok-depths.ensures c.deref-2.result.now c.in_ok-frames.frames c.deref-2.ensures.value framed,
+      record { checked = a.checked; are = are; depths_are = deep; frames = frames },
     )
 
 pub returns-in_err-frames-clause-refused : goal.returns-in_err-frames-clause-refused
@@ -45,12 +43,12 @@ returns-in_err-frames-clause-refused g c =
     let text = c.args.source.now in
     let t = c.requires.analyzed.0 in
     let a = c.requires.analyzed.1 in
-    let are : AreRowsOf (folded_if fold (ast t)) c.in_ok-rows.rows c.in_ok-rows.names =
+    let p = folded_if fold (ast t) in
+    let are : AreRowsOf p c.in_ok-rows.rows c.in_ok-rows.names =
     rows_of fold text t c.args.analysis a c.parts-tokens.result.1 c.in_ok-rows.rows c.parts-tokens.result.2 c.in_ok-rows.names c.parts-tokens.ensures.rows c.parts-tokens.ensures.names c.compiled_programs_are_clean.ensures c.in_ok-rows.ensures.are in
+    let deep = c.in_ok-depths.ensures p (c.compiled_programs_are_clean.ensures fold text t a.checked).shaped are.rows_are in
     handed_on (IsRefusedBy fold text) c.from_residual-in_err-frames.result c.in_err-frames.field-0.0 c.from_residual-in_err-frames.ensures.1
-    (c.in_err-frames.ensures.refused fold t a.checked are.rows_are
-    (depths_of fold text t c.args.analysis a c.parts-tokens.result.1 c.in_ok-rows.rows c.parts-tokens.result.2 c.in_ok-rows.names c.parts-tokens.ensures.rows c.parts-tokens.ensures.names c.compiled_programs_are_clean.ensures c.in_ok-rows.ensures.are
-    c.in_ok-depths.depths.items c.in_ok-depths.ensures c.deref.result.now c.deref.ensures.value))
+    (c.in_err-frames.ensures.refused fold t a.checked are.rows_are (c.deref.ensures.value ∙ deep))
 
 pub returns-clause-ok : goal.returns-clause-ok
 returns-clause-ok g c =
@@ -58,16 +56,12 @@ returns-clause-ok g c =
     let text = c.args.source.now in
     let t = c.requires.analyzed.0 in
     let a = c.requires.analyzed.1 in
-    let are : AreRowsOf (folded_if fold (ast t)) c.in_ok-rows.rows c.in_ok-rows.names =
+    let p = folded_if fold (ast t) in
+    let are : AreRowsOf p c.in_ok-rows.rows c.in_ok-rows.names =
     rows_of fold text t c.args.analysis a c.parts-tokens.result.1 c.in_ok-rows.rows c.parts-tokens.result.2 c.in_ok-rows.names c.parts-tokens.ensures.rows c.parts-tokens.ensures.names c.compiled_programs_are_clean.ensures c.in_ok-rows.ensures.are in
-    let framed : AreFrames (folded_if fold (ast t)) c.in_ok-frames.frames =
-    c.in_ok-frames.ensures.ok fold t a.checked are.rows_are
-    (depths_of fold text t c.args.analysis a c.parts-tokens.result.1 c.in_ok-rows.rows c.parts-tokens.result.2 c.in_ok-rows.names c.parts-tokens.ensures.rows c.parts-tokens.ensures.names c.compiled_programs_are_clean.ensures c.in_ok-rows.ensures.are
-    c.in_ok-depths.depths.items c.in_ok-depths.ensures c.deref.result.now c.deref.ensures.value) in
-    let all : IsCoded fold text t c.in_ok-rows.rows c.in_ok-rows.names c.deref-2.result.now c.in_ok-frames.frames =
-    coded fold text t c.args.analysis a c.parts-tokens.result.1 c.in_ok-rows.rows c.parts-tokens.result.2 c.in_ok-rows.names c.parts-tokens.ensures.rows c.parts-tokens.ensures.names c.compiled_programs_are_clean.ensures c.in_ok-rows.ensures.are
-    c.in_ok-depths.depths.items c.in_ok-depths.ensures c.deref-2.result.now c.in_ok-frames.frames c.deref-2.ensures.value framed in
-    IfOk-weaker c.emitted.result _ _ (λ v is. let it = is fold t all in (folded_if fold (ast t), it.0, it.1)) c.emitted.ensures.ok
+    let deep = c.in_ok-depths.ensures p (c.compiled_programs_are_clean.ensures fold text t a.checked).shaped are.rows_are in
+    let frames = c.in_ok-frames.ensures.ok fold t a.checked are.rows_are (c.deref.ensures.value ∙ deep) in
+    IfOk-weaker c.emitted.result _ _ (λ v is. let it = is fold t (record { checked = a.checked; are = are; depths_are = deep; frames = frames }) in (p, it.0, it.1)) c.emitted.ensures.ok
 
 pub returns-clause-refused : goal.returns-clause-refused
 returns-clause-refused g c =
@@ -75,12 +69,9 @@ returns-clause-refused g c =
     let text = c.args.source.now in
     let t = c.requires.analyzed.0 in
     let a = c.requires.analyzed.1 in
-    let are : AreRowsOf (folded_if fold (ast t)) c.in_ok-rows.rows c.in_ok-rows.names =
+    let p = folded_if fold (ast t) in
+    let are : AreRowsOf p c.in_ok-rows.rows c.in_ok-rows.names =
     rows_of fold text t c.args.analysis a c.parts-tokens.result.1 c.in_ok-rows.rows c.parts-tokens.result.2 c.in_ok-rows.names c.parts-tokens.ensures.rows c.parts-tokens.ensures.names c.compiled_programs_are_clean.ensures c.in_ok-rows.ensures.are in
-    let framed : AreFrames (folded_if fold (ast t)) c.in_ok-frames.frames =
-    c.in_ok-frames.ensures.ok fold t a.checked are.rows_are
-    (depths_of fold text t c.args.analysis a c.parts-tokens.result.1 c.in_ok-rows.rows c.parts-tokens.result.2 c.in_ok-rows.names c.parts-tokens.ensures.rows c.parts-tokens.ensures.names c.compiled_programs_are_clean.ensures c.in_ok-rows.ensures.are
-    c.in_ok-depths.depths.items c.in_ok-depths.ensures c.deref.result.now c.deref.ensures.value) in
-    c.emitted.ensures.refused fold t
-    (coded fold text t c.args.analysis a c.parts-tokens.result.1 c.in_ok-rows.rows c.parts-tokens.result.2 c.in_ok-rows.names c.parts-tokens.ensures.rows c.parts-tokens.ensures.names c.compiled_programs_are_clean.ensures c.in_ok-rows.ensures.are
-    c.in_ok-depths.depths.items c.in_ok-depths.ensures c.deref-2.result.now c.in_ok-frames.frames c.deref-2.ensures.value framed)
+    let deep = c.in_ok-depths.ensures p (c.compiled_programs_are_clean.ensures fold text t a.checked).shaped are.rows_are in
+    let frames = c.in_ok-frames.ensures.ok fold t a.checked are.rows_are (c.deref.ensures.value ∙ deep) in
+    c.emitted.ensures.refused fold t (record { checked = a.checked; are = are; depths_are = deep; frames = frames })

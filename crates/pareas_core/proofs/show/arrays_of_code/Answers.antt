@@ -35,8 +35,8 @@ laid_out-requires-clause-nodes g c κs within =
     let h = tree_few c.args.source.now c.args.analysis.rows t.0 t.1.checked.fits (record { tree = t.1.checked.tree; shaped = t.1.checked.shaped; are = t.1.rows_are }) (c.rows_are_few.ensures t.0) in
     omega arith
 
-pub laid_out-requires-clause-coded : goal.laid_out-requires-clause-coded
-laid_out-requires-clause-coded g c κs within =
+pub laid_out-requires-clause-framed : goal.laid_out-requires-clause-framed
+laid_out-requires-clause-framed g c κs within =
     let text = c.args.source.now in
     let t = c.requires.analyzed in
     let rows = c.parts-tokens.ensures.rows ∙ t.1.rows_are in
@@ -45,15 +45,15 @@ laid_out-requires-clause-coded g c κs within =
       record {
         checked = t.1.checked;
         are = of_analysis text t.0 c.args.analysis c.parts-tokens.result.1 c.parts-tokens.result.2 t.1 c.parts-tokens.ensures.rows c.parts-tokens.ensures.names;
-        depths_are = c.deref-2.ensures.value ∙ deep;
-        framed = c.in_ok-frames.ensures.ok false t.0 t.1.checked rows (c.deref.ensures.value ∙ deep);
+        depths_are = deep;
+        frames = c.in_ok-frames.ensures.ok false t.0 t.1.checked rows (c.deref.ensures.value ∙ deep);
       },
     )
 
 pub code_columns-requires : goal.code_columns-requires
 code_columns-requires g c =
     let few = c.in_ok-sizes.ensures.few in
-    let same = ap length c.deref-6.ensures.value in
+    let same = ap length c.deref-5.ensures.value in
     record { few = omega arith }
 
 pub returns-clause-frames : goal.returns-clause-frames
@@ -75,10 +75,10 @@ returns-clause-places g c =
     (record {
       checked = t.1.checked;
       are = of_analysis text t.0 c.args.analysis c.parts-tokens.result.1 c.parts-tokens.result.2 t.1 c.parts-tokens.ensures.rows c.parts-tokens.ensures.names;
-      depths_are = c.deref-2.ensures.value ∙ deep;
-      framed = c.in_ok-frames.ensures.ok false t.0 t.1.checked rows (c.deref.ensures.value ∙ deep);
+      depths_are = deep;
+      frames = c.in_ok-frames.ensures.ok false t.0 t.1.checked rows (c.deref.ensures.value ∙ deep);
     }) in
-    are_places text c.parts-tokens.result.1 _ _ _ c.in_ok-place_columns.field-0.items (ast t.0) is.0 rows (c.deref-3.ensures.value ∙ deep) (c.deref-4.ensures.value ∙ is.1.sizes_are) (c.deref-5.ensures.value ∙ is.1.places_are)
+    are_places text c.parts-tokens.result.1 _ _ _ c.in_ok-place_columns.field-0.items (ast t.0) is.0 rows (c.deref-2.ensures.value ∙ deep) (c.deref-3.ensures.value ∙ is.1.sizes_are) (c.deref-4.ensures.value ∙ is.1.places_are)
     c.in_ok-place_columns.ensures
 
 pub returns-clause-code : goal.returns-clause-code
@@ -91,10 +91,10 @@ returns-clause-code g c =
     (record {
       checked = t.1.checked;
       are = of_analysis text t.0 c.args.analysis c.parts-tokens.result.1 c.parts-tokens.result.2 t.1 c.parts-tokens.ensures.rows c.parts-tokens.ensures.names;
-      depths_are = c.deref-2.ensures.value ∙ deep;
-      framed = c.in_ok-frames.ensures.ok false t.0 t.1.checked rows (c.deref.ensures.value ∙ deep);
+      depths_are = deep;
+      frames = c.in_ok-frames.ensures.ok false t.0 t.1.checked rows (c.deref.ensures.value ∙ deep);
     }) in
-    are_words text _ c.in_ok-code_columns.field-0.items (ast t.0) is.0 (c.deref-6.ensures.value ∙ is.1.words_are) c.in_ok-code_columns.ensures
+    are_words text _ c.in_ok-code_columns.field-0.items (ast t.0) is.0 (c.deref-5.ensures.value ∙ is.1.words_are) c.in_ok-code_columns.ensures
 
 pub returns-in_err-frames-clause-stopped : goal.returns-in_err-frames-clause-stopped
 returns-in_err-frames-clause-stopped g c =
@@ -117,6 +117,6 @@ returns-in_err-sizes-clause-stopped g c =
     (record {
       checked = t.1.checked;
       are = of_analysis text t.0 c.args.analysis c.parts-tokens.result.1 c.parts-tokens.result.2 t.1 c.parts-tokens.ensures.rows c.parts-tokens.ensures.names;
-      depths_are = c.deref-2.ensures.value ∙ deep;
-      framed = c.in_ok-frames.ensures.ok false t.0 t.1.checked rows (c.deref.ensures.value ∙ deep);
+      depths_are = deep;
+      frames = c.in_ok-frames.ensures.ok false t.0 t.1.checked rows (c.deref.ensures.value ∙ deep);
     })))
