@@ -86,15 +86,12 @@ const MIN: u32 = 0x8000_0000;
 
 const MINUS_1: u32 = u32::MAX;
 
+// An operator, the two numbers that it takes, and the constant that they give.
+type Operation = (BinaryOp, u32, u32, Kind);
+
 // `return x op y;` is one constant, which has the operator's own token.
-fn expect_binary(
-    rt: &impl Abort,
-    crew: &impl Passes,
-    op: BinaryOp,
-    x: u32,
-    y: u32,
-    constant: Kind,
-) -> Result<(), Fail> {
+fn expect_binary(rt: &impl Abort, crew: &impl Passes, operation: Operation) -> Result<(), Fail> {
+    let (op, x, y, constant) = operation;
     let before = [
         (Kind::Num(x), 2, 8, 0, NONE),
         (Kind::Num(y), 2, 10, 1, NONE),
@@ -115,7 +112,7 @@ fn expect_binary(
 }
 
 // Operators on edge values.
-const BINARIES: [(BinaryOp, u32, u32, Kind); 24] = [
+const BINARIES: &[Operation] = &[
     (BinaryOp::Plus, MINUS_1, 2, Kind::Num(1)),
     (BinaryOp::Minus, 0, 1, Kind::Num(MINUS_1)),
     (BinaryOp::Times, 65536, 65537, Kind::Num(65536)),
@@ -146,8 +143,8 @@ const BINARIES: [(BinaryOp, u32, u32, Kind); 24] = [
 fn operators(rt: HostRuntime) -> Result<(), Fail> {
     for &plan in PLANS {
         let crew = at(&rt, rt.alloc(), plan, &OpenGate)?;
-        for (op, x, y, constant) in BINARIES {
-            expect_binary(&rt, &crew, op, x, y, constant)?;
+        for &operation in BINARIES {
+            expect_binary(&rt, &crew, operation)?;
         }
     }
     Ok(())

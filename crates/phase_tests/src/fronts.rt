@@ -239,22 +239,16 @@ fn sources_have_a_limit(rt: HostRuntime) -> Result<(), Fail> {
     Ok(())
 }
 
-// A function main with so many copies of a piece between a beginning and an end.
-fn repeated(
-    alloc: Global,
-    beginning: &[u8],
-    piece: &[u8],
-    count: u32,
-    end: &[u8],
-    ends: u32,
-) -> Result<Vec<u8>, Fail> {
+// A text, and how many times it stands in a row.
+type Copies = (&'static [u8], u32);
+
+// A function main with these texts in turn.
+fn repeated(alloc: Global, texts: &[Copies]) -> Result<Vec<u8>, Fail> {
     let mut text = b"fn main(): int { ".to_vec(alloc)?;
-    text.extend_from_slice(beginning)?;
-    for _ in 0..count {
-        text.extend_from_slice(piece)?;
-    }
-    for _ in 0..ends {
-        text.extend_from_slice(end)?;
+    for &(copy, count) in texts {
+        for _ in 0..count {
+            text.extend_from_slice(copy)?;
+        }
     }
     text.extend_from_slice(b"return x; }")?;
     Ok(text)
@@ -292,14 +286,17 @@ fn refused<R: Threads + Sync>(
     Ok(refusal(&crew, source))
 }
 
-const OUTER: &[u8] = b"var x: int = 1; ";
+const OUTER: Copies = (b"var x: int = 1; ", 1);
 
 #[test]
 fn names_in_great_numbers(rt: HostRuntime) -> Result<(), Fail> {
     let alloc = rt.alloc();
-    let nested = repeated(alloc, OUTER, b"{ var x: int = x; ", 1_000, b"} ", 1_000)?;
+    let nested = repeated(
+        alloc,
+        &[OUTER, (b"{ var x: int = x; ", 1_000), (b"} ", 1_000)],
+    )?;
     assert!(rt; refused(&rt, alloc, &nested)?.is_none());
-    let apart = repeated(alloc, OUTER, b"{ var x: int = x; } ", 20_000, b"", 0)?;
+    let apart = repeated(alloc, &[OUTER, (b"{ var x: int = x; } ", 20_000)])?;
     assert!(rt; refused(&rt, alloc, &apart)?.is_none());
     let many = many_names(alloc, 20_000)?;
     assert!(rt; refused(&rt, alloc, &many)?.is_none());
@@ -311,11 +308,11 @@ fn the_first_fault_of_many_names(rt: HostRuntime) -> Result<(), Fail> {
     let alloc = rt.alloc();
     let again = repeated(
         alloc,
-        OUTER,
-        b"{ var x: int = x; } ",
-        20_000,
-        b"var x: int = 2; ",
-        1,
+        &[
+            OUTER,
+            (b"{ var x: int = x; } ", 20_000),
+            (b"var x: int = 2; ", 1),
+        ],
     )?;
     let declared_twice = Refusal::Diagnostic {
         code: 402,

@@ -131,6 +131,83 @@ fn two_workers_meet_in_each_pass(rt: HostRuntime) -> Result<(), Fail> {
     Ok(())
 }
 
+// The words that workers share.
+#[derive(Clone, Copy, PartialEq, Eq, Debug)]
+enum Shared {
+    // hands out each chunk's number once
+    Claim,
+    // hands out the parts of a list, and takes them back
+    Deal,
+    // a chunk's sum, or the sum up to it, for those who look back
+    Status,
+    // takes a value at its place
+    Cells,
+    // keeps the least key
+    Least,
+}
+
+// The words that are shared in each pass of a build in which two workers meet, phase by phase. Those from depths to words count as one.
+const BUILD: &[&[&[Shared]]] = &[
+    // tokens: stretches
+    &[&[Shared::Claim]],
+    // parse: terminals, what pairs close and open, productions
+    &[&[Shared::Deal], &[Shared::Claim], &[Shared::Claim]],
+    // rows: tokens of rows, four times by stretches, kin, rows of functions, and how many of these stand before
+    &[
+        &[Shared::Claim],
+        &[Shared::Claim],
+        &[Shared::Claim],
+        &[Shared::Claim],
+        &[Shared::Claim],
+        &[Shared::Deal],
+        &[Shared::Claim],
+        &[Shared::Claim, Shared::Status],
+    ],
+    // names: what is declared, what is found
+    &[&[Shared::Claim], &[Shared::Claim]],
+    // types, and the first fault of them
+    &[&[Shared::Deal], &[Shared::Claim, Shared::Least]],
+    // sums of depths and depths; numbers of variables, functions of calls and sizes; sums and places; children that jumps go to, and words
+    &[
+        &[Shared::Claim],
+        &[Shared::Claim],
+        &[Shared::Deal],
+        &[Shared::Deal],
+        &[Shared::Deal],
+        &[Shared::Claim, Shared::Status],
+        &[Shared::Deal],
+        &[Shared::Deal],
+        &[Shared::Claim, Shared::Cells],
+    ],
+];
+
+// Whether such words are shared in some pass of a build.
+fn is_used(word: Shared) -> bool {
+    BUILD
+        .iter()
+        .any(|passes| passes.iter().any(|words| words.contains(&word)))
+}
+
+#[test]
+fn build_uses_each_shared_word(rt: HostRuntime) -> Result<(), Fail> {
+    let [tokens, parse, rows, names, types] = passes_of_phases(&rt, rt.alloc())?;
+    let (_, code) = passes_of_code(&rt, rt.alloc(), SEVEN, false)?;
+    let found = [tokens, parse, rows, names, types, code];
+    for (passes, (met, _)) in BUILD.iter().zip(&found) {
+        assert_eq!(rt; passes.len() as u64, *met);
+    }
+    for word in [
+        Shared::Claim,
+        Shared::Deal,
+        Shared::Status,
+        Shared::Cells,
+        Shared::Least,
+    ] {
+        assert!(rt; is_used(word), "{word:?}");
+    }
+    Ok(())
+}
+
 #[test]
 fn build_does_what_its_calls_do(rt: HostRuntime) -> Result<(), Fail> {
     let (mut met, mut alone) = CODE;
