@@ -1,5 +1,5 @@
 -- Where each part of a program's words begins is what its rows' places say.
-use Rattle.std.proofs.Common.{◌≡◌, inl, inr, ℕ, zero, suc, ◌+◌, ◌-◌, ◌*◌, ◌<◌, ◌≤◌, min, List, [], ◌∷◌, ◌++◌, length, map, get_or, Option, refl, sym, ap, ◌∙◌, arith, length-append, suc-mul}
+use Rattle.std.proofs.Common.{◌≡◌, inl, inr, ℕ, zero, suc, ◌+◌, ◌-◌, ◌*◌, ◌<◌, ◌≤◌, min, List, [], ◌∷◌, ◌++◌, length, map, get_or, Option, refl, sym, ap, ◌∙◌, arith, length-append, suc-mul, append_assoc, append-nil}
 use Rattle.std.specs.Prelude.{flat_map}
 use Rattle.std.specs.List.{range_with_len}
 use Rattle.std.proofs.lemmas.Bool.{cases_lt}
@@ -24,7 +24,7 @@ use Rattle.rv_select.specs.Knowns.{known_of, start_of}
 use Rattle.rv_select.specs.Layout.{place_in, rows, words_many, AreLaid}
 use Rattle.rv_select.specs.Referred.{spots_in}
 use Rattle.rv_select.specs.declared.referred.Places.{Places}
-use Rattle.rv_emit.specs.OfColumns.{head_of, piece_of, row_words, part_of, words_before, AreAccepted}
+use Rattle.rv_emit.specs.OfColumns.{head_of, piece_of, row_words, part_of, words_before, words_from, AreAccepted}
 use Rattle.rv_emit.proofs.Bounds.{sum_first}
 use Rattle.rv_emit.proofs.Sized.{fits, many, next}
 
@@ -116,16 +116,39 @@ module _ (c : ProgramColumns) (layout : Layout) (s : Places) (main : ℕ) (p : P
     pub before_is : (size words n row : ℕ) → words ≡ words_many layout c → row ≡ min (n * size) long → get_or s.at.now row words ≡ words_before c layout s main size (suc n)
     before_is size words n row all is = place_read words row all (omega arith) ∙ ap At is ∙ sym (parts_long size n)
 
-module _ (c : ProgramColumns) (layout : Layout) (s : Places) (main size count : ℕ) (starts : List ℕ) (are : starts ≡ map (words_before c layout s main size) (range_with_len 0 (count + 2))) where
-  starts_long : length starts ≡ count + 2
-  starts_long = ap (λ (l : List ℕ). length l) are ∙ length-map-range_with_len (words_before c layout s main size) 0 (count + 2)
+-- the lists of so many numbers, and of so many behind them
+pub parts_more : (part : ℕ → List ℕ) (a n : ℕ) → flat_map part (range_with_len 0 (a + n)) ≡ flat_map part (range_with_len 0 a) ++ flat_map (λ k. part (a + k)) (range_with_len 0 n)
+parts_more part a zero =
+    let z : a + 0 ≡ a = omega arith in
+    ap (λ m. flat_map part (range_with_len 0 m)) z ∙ sym (append-nil (flat_map part (range_with_len 0 a)))
+parts_more part a (suc n) =
+    let z : a + suc n ≡ a + n + 1 = omega arith in
+    let y : 0 + (a + n) ≡ a + n = omega arith in
+    let x : suc n ≡ n + 1 = omega arith in
+    let w : 0 + n ≡ n = omega arith in
+    ap (λ m. flat_map part (range_with_len 0 m)) z
+    ∙ flat_map_more part 0 (a + n)
+    ∙ ap (λ m. flat_map part (range_with_len 0 (a + n)) ++ part m) y
+    ∙ ap (λ (l : List ℕ). l ++ part (a + n)) (parts_more part a n)
+    ∙ append_assoc (flat_map part (range_with_len 0 a)) (flat_map (λ k. part (a + k)) (range_with_len 0 n)) (part (a + n))
+    ∙ ap (λ (l : List ℕ). flat_map part (range_with_len 0 a) ++ l) (sym (ap (λ m. flat_map (λ k. part (a + k)) (range_with_len 0 m)) x ∙ flat_map_more (λ k. part (a + k)) 0 n ∙ ap (λ m. flat_map (λ k. part (a + k)) (range_with_len 0 n) ++ part (a + m)) w))
 
-  pub starts_many : length starts - 1 ≡ count + 1
+module _ (c : ProgramColumns) (layout : Layout) (s : Places) (main size first count : ℕ) (starts : List ℕ) (are : starts ≡ map (words_from c layout s main size first) (range_with_len 0 (count + 1))) where
+  starts_long : length starts ≡ count + 1
+  starts_long = ap (λ (l : List ℕ). length l) are ∙ length-map-range_with_len (words_from c layout s main size first) 0 (count + 1)
+
+  pub starts_many : length starts - 1 ≡ count
   starts_many = let e = starts_long in omega arith
 
-  pub parts_start : AreStarts (part_of c layout s main size) starts
+  from_is : (n : ℕ) → words_from c layout s main size first n ≡ length (flat_map (λ k. part_of c layout s main size (first + k)) (range_with_len 0 n))
+  from_is n =
+      let more = ap (λ (l : List ℕ). length l) (parts_more (part_of c layout s main size) first n)
+      ∙ length-append (flat_map (part_of c layout s main size) (range_with_len 0 first)) (flat_map (λ k. part_of c layout s main size (first + k)) (range_with_len 0 n)) in
+      omega arith
+
+  pub parts_start : AreStarts (λ k. part_of c layout s main size (first + k)) starts
   parts_start =
       let e = starts_long in (
         omega arith,
-        λ n lt. ap (λ (l : List ℕ). get_or l n 0) are ∙ get_or-map-range_with_len (words_before c layout s main size) 0 (count + 2) n n 0 (omega arith) (omega arith),
+        λ n lt. ap (λ (l : List ℕ). get_or l n 0) are ∙ get_or-map-range_with_len (words_from c layout s main size first) 0 (count + 1) n n 0 (omega arith) (omega arith) ∙ from_is n,
       )

@@ -1,6 +1,9 @@
+use Rattle.std.proofs.Common.{◌≡◌, ◌*◌, min}
+use Rattle.std.specs.Prelude.{flat_map}
+use Rattle.std.specs.List.{range_with_len}
 use Rattle.rv_select.specs.Knowns.{code_layout}
 use Rattle.rv_emit.specs.OfColumns.{part_of}
 use Rattle.rv_emit.proofs.write.LaidOut.write_parts.Given as goal
 
-abbrev pub ghosts-scatter_parts : goal.ghosts-scatter_parts
-ghosts-scatter_parts g a = record { part = λ n. part_of a.make.now.0.now.columns.now (code_layout a.make.now.0.now.layout) a.make.now.0.now.places a.make.now.0.now.main a.make.now.2.now n }
+abbrev pub invariant-loop-w : goal.invariant-loop-w
+invariant-loop-w g l = l.out.items ≡ flat_map (part_of l.self.columns.now (code_layout l.self.layout) l.self.places l.self.main l.size) (range_with_len 0 (min (l.w * l.per) l.count))
