@@ -146,7 +146,8 @@ enum Shared {
     Least,
 }
 
-// The words that are shared in each pass of a build in which two workers meet, phase by phase. Those from depths to words count as one.
+// The words that are shared in each pass of a build in which two workers meet, phase by phase. Those from depths to words count as one. The gate counts the
+// passes of each; which words a pass has is what this table says of it.
 const BUILD: &[&[&[Shared]]] = &[
     // tokens: stretches
     &[&[Shared::Claim]],

@@ -126,7 +126,7 @@ fn put_parts<C: Crew, F: Fn(u64) -> Result<Vec<u32>, AllocError> + Sync, N: Pair
 /// how many values there are. K names what is made. The list is the same for every crew, and the only refusal is that memory is out.
 ///
 /// Workers claim the numbers, and put what they make into the words of one shared table, where a word is 0 before its value and the value plus 1
-/// after it. There are at most as many workers as numbers. One worker writes what it makes right into the list.
+/// after it. There are at most as many workers as numbers. One worker puts what it makes right behind the list so far.
 /// The crew's gate is told of each claim by the worker's number, which is below that of the workers, and once of its end.
 pub fn scatter_parts<C: Crew, F: Fn(u64) -> Result<Vec<u32>, AllocError> + Sync, K: Parts>(
     crew: &C,
