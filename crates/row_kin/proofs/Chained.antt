@@ -6,7 +6,7 @@ use Rattle.list_cuts.specs.Cuts.{number_at}
 use Rattle.row_kin.specs.Searched.{IsNextUntil, IsBeginFrom}
 use Rattle.row_kin.specs.Taken.{taker, first_of, taken_by, parent_by, place_by, placed_by, Looks}
 use Rattle.row_kin.specs.Settles.{Done, DoneAlone, Settling}
-use Rattle.row_kin.proofs.Looking.{lt_true, lt_false, is_taker, taker_behind, is_first, inside_ends, outside_stays, look_begins, none_between, none_outside, parent_same, place_same, place_new, place_later}
+use Rattle.row_kin.proofs.Looking.{lt_true, lt_false, is_taker, taker_behind, is_first, inside_ends, look_begins, none_between, none_outside, parent_same, place_same, place_new, place_later}
 use Rattle.row_kin.proofs.Writing.{set_other, set_same}
 
 lt_later : (a i j : ℕ) → i ≤ j → (a < i) ⊎ (j ≤ a) → nat_lt a i ≡ nat_lt a j
@@ -85,8 +85,8 @@ module _ (lows : List ℕ) where
   quiet_count from i m le a b few = none_outside lows m from few (let f = quiet_first i m a b few in omega arith)
 
   module _ (from to : ℕ) where
-    pub settle_begins : (parents firsts places counts : List ℕ) → from ≤ to → to ≤ length lows → Done lows parents firsts places counts from → DoneAlone lows parents firsts places counts from to → Settling lows parents firsts places counts from to from from
-    settle_begins parents firsts places counts order within before own = record {
+    pub settle_begins : (parents firsts places : List ℕ) → from ≤ to → to ≤ length lows → Done lows parents firsts places from → DoneAlone lows parents firsts places from to → Settling lows parents firsts places from to from from
+    settle_begins parents firsts places order within before own = record {
       low = omega arith;
       high = order;
       top_low = omega arith;
@@ -96,20 +96,17 @@ module _ (lows : List ℕ) where
       up_own = own.up;
       first = before.first;
       first_own = own.first;
-      count = before.count;
-      count_own = own.count;
       place = before.place;
       place_done = λ k a b c. let t = taker_behind lows k (omega arith) in absurd (omega arith);
       place_own = λ k a b c d. own.place k a b d;
       root = own.root;
     }
 
-    pub settle_ends : (parents firsts places counts : List ℕ) (i top : ℕ) → Settling lows parents firsts places counts from to i top → to ≤ i → Done lows parents firsts places counts to
-    settle_ends parents firsts places counts i top s le = record {
+    pub settle_ends : (parents firsts places : List ℕ) (i top : ℕ) → Settling lows parents firsts places from to i top → to ≤ i → Done lows parents firsts places to
+    settle_ends parents firsts places i top s le = record {
       up = λ k a. up k a (cases_lt k from);
       first = λ k a. s.first k (omega arith);
       place = λ k a. place k a (cases_lt k from) (cases_lt (taker lows k) to);
-      count = λ k a. s.count k (omega arith);
     }
       where
         now : i ≡ to
@@ -125,7 +122,7 @@ module _ (lows : List ℕ) where
         place k a (inr ge) (inr over) = s.root k ge a over ∙ sym (ap (λ (b : Bool). if b then taken_by lows (taker lows k) k else 0) (lt_false (taker lows k) to over))
 
     -- row i is settled
-    module _ (parents firsts places counts : List ℕ) (i top : ℕ) (within : to ≤ length lows) (s : Settling lows parents firsts places counts from to i top) (lt : i < to) where
+    module _ (parents firsts places : List ℕ) (i top : ℕ) (within : to ≤ length lows) (s : Settling lows parents firsts places from to i top) (lt : i < to) where
       few : i < length lows
       few = omega arith
 
@@ -133,35 +130,22 @@ module _ (lows : List ℕ) where
       pub counted_before : taken_by lows i top ≡ taken_by lows i from
       counted_before = sym (none_between lows i top from s.top_low (λ k a b. let n = s.inner k a b in omega arith))
 
-      pub count_all : (n : ℕ) → n ≡ taken_by lows i top → number_at counts i + n ≡ taken_by lows i i
-      count_all n is = let e = counted_before in let o = s.count_own i (omega arith) lt in omega arith
-
-      -- where it takes in none, its children have their places
-      pub places_right : (t : ℕ) → t ≡ first_of lows i → top ≤ t → (k : ℕ) → k < i → number_at places k ≡ placed_by lows i k (number_at places k)
-      places_right t is le k less = by (cases_lt (taker lows k) i) (cases_lt i (taker lows k))
+      -- behind them its children of the stretch have their places
+      pub own_behind : (n : ℕ) → n ≡ taken_by lows i top → (k : ℕ) → top ≤ k → k < i → taker lows k ≡ i → number_at places k + n ≡ taken_by lows i k
+      own_behind n is k a b e = by (cases_lt k from)
         where
-          same : taker lows k ≢ i → number_at places k ≡ placed_by lows i k (number_at places k)
-          same ne = sym (place_same lows i k (number_at places k) ne)
-
-          here : taker lows k ≡ i → (k < from) ⊎ (from ≤ k) → (k < top) ⊎ (top ≤ k) → number_at places k ≡ placed_by lows i k (number_at places k)
-          here e (inl a) (inl b) = absurd (outside_stays lows i k few (omega arith) e)
-          here e (inl a) (inr b) = absurd (let n = s.inner k b a in omega arith)
-          here e (inr a) any =
-              let o = s.place_own k a (omega arith) (omega arith) (omega arith) in
-              let z = none_outside lows i top few (omega arith) in
+          by : (k < from) ⊎ (from ≤ k) → number_at places k + n ≡ taken_by lows i k
+          by (inl less) = absurd (let o = s.inner k a less in omega arith)
+          by (inr ge) =
+              let o = s.place_own k ge (omega arith) (omega arith) (omega arith) in
               let y = counted_before in
               let x : taken_by lows (taker lows k) from ≡ taken_by lows i from = ap (λ (q : ℕ). taken_by lows q from) e in
               let w : taken_by lows (taker lows k) k ≡ taken_by lows i k = ap (λ (q : ℕ). taken_by lows q k) e in
-              (let v : number_at places k ≡ taken_by lows i k = omega arith in v) ∙ sym (place_new lows i k (number_at places k) e)
-
-          by : (taker lows k < i) ⊎ (i ≤ taker lows k) → (i < taker lows k) ⊎ (taker lows k ≤ i) → number_at places k ≡ placed_by lows i k (number_at places k)
-          by (inl a) any = same (omega arith)
-          by (inr a) (inl b) = same (omega arith)
-          by (inr a) (inr b) = here (omega arith) (cases_lt k from) (cases_lt k top)
+              omega arith
 
       -- the next one, or the end
-      pub settle_steps : (parents' places' : List ℕ) (t n next : ℕ) → length firsts ≡ length lows → length counts ≡ length lows → t ≡ first_of lows i → t ≤ top → n ≡ taken_by lows i top → next ≡ min (taker lows i) to → ((k : ℕ) → k < top → number_at parents' k ≡ parent_by lows (i + 1) k) → ((k : ℕ) → top ≤ k → number_at parents' k ≡ number_at parents k) → ((k : ℕ) → k < i → number_at places' k ≡ placed_by lows i k (number_at places k)) → ((k : ℕ) → i ≤ k → number_at places' k ≡ number_at places k) → Settling lows parents' (set firsts i t) places' (set counts i (number_at counts i + n)) from to next t
-      settle_steps parents' places' t n next firsts_many counts_many is fall counted goes taken kept placed stays = record {
+      pub settle_steps : (parents' places' : List ℕ) (t next : ℕ) → length firsts ≡ length lows → t ≡ first_of lows i → t ≤ top → next ≡ min (taker lows i) to → ((k : ℕ) → k < top → number_at parents' k ≡ parent_by lows (i + 1) k) → ((k : ℕ) → top ≤ k → number_at parents' k ≡ number_at parents k) → ((k : ℕ) → k < i → number_at places' k ≡ placed_by lows i k (number_at places k)) → ((k : ℕ) → i ≤ k → number_at places' k ≡ number_at places k) → Settling lows parents' (set firsts i t) places' from to next t
+      settle_steps parents' places' t next firsts_many is fall goes taken kept placed stays = record {
         low = (let b = behind in let a = s.low in omega arith);
         high = omega arith;
         top_low = (let a = s.top_low in omega arith);
@@ -171,8 +155,6 @@ module _ (lows : List ℕ) where
         up_own = λ k a b. kept k (let c = s.top_low in omega arith) ∙ s.up_own k a b;
         first = λ k a. first k a (cases_lt k i) (cases_lt i k);
         first_own = λ k a b. set_other firsts i k t (let c = behind in let d : (k ≡ i → ⊥) = omega arith in d) ∙ s.first_own k (let c = behind in omega arith) b;
-        count = λ k a. count k a (cases_lt k i) (cases_lt i k);
-        count_own = λ k a b. ap (λ (m : ℕ). m + taken_by lows k from) (set_other counts i k (number_at counts i + n) (let c = behind in let d : (k ≡ i → ⊥) = omega arith in d)) ∙ s.count_own k (let c = behind in omega arith) b;
         place = λ k a. place k a;
         place_done = λ k a b c. place_done k a b c (cases_lt k i) (cases_lt (taker lows k) i) (cases_lt i (taker lows k));
         place_own = λ k a b c d. ap (λ (m : ℕ). m + taken_by lows (taker lows k) from) (place_kept k (let e = behind in omega arith) (cases_lt k i)) ∙ s.place_own k a b (let e = behind in omega arith) d;
@@ -204,14 +186,6 @@ module _ (lows : List ℕ) where
               let l = s.low in
               set_other firsts i k t (omega arith) ∙ s.first_own k (omega arith) (omega arith) ∙ (let e : max from (first_of lows k) ≡ first_of lows k = omega arith in e)
           first k a (inr ge) (inr le) = let e : i ≡ k = omega arith in subst (λ (j : ℕ). number_at (set firsts i t) j ≡ first_of lows j) e (set_same firsts i t (let f = few in omega arith) ∙ is)
-
-          count : (k : ℕ) → k < next → (k < i) ⊎ (i ≤ k) → (i < k) ⊎ (k ≤ i) → number_at (set counts i (number_at counts i + n)) k ≡ taken_by lows k k
-          count k a (inl less) any = set_other counts i k (number_at counts i + n) (omega arith) ∙ s.count k less
-          count k a (inr ge) (inl more) =
-              let q = quiet_count from i k s.low more (omega arith) (omega arith) in
-              let o = s.count_own k (omega arith) (omega arith) in
-              set_other counts i k (number_at counts i + n) (omega arith) ∙ (let e : number_at counts k ≡ taken_by lows k k = omega arith in e)
-          count k a (inr ge) (inr le) = let e : i ≡ k = omega arith in subst (λ (j : ℕ). number_at (set counts i (number_at counts i + n)) j ≡ taken_by lows j j) e (set_same counts i (number_at counts i + n) (let f = few in omega arith) ∙ count_all n counted)
 
           place : (k : ℕ) → k < from → number_at places' k ≡ place_by lows next k
           place k a =

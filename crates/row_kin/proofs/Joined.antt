@@ -7,7 +7,7 @@ use Rattle.list_cuts.specs.Cuts.{number_at, start_of, AreCuts}
 use Rattle.row_kin.proofs.Starts.{starts_rise}
 use Rattle.row_kin.proofs.Cutting.{flat_map_more}
 use Rattle.row_kin.specs.declared.stretches.Ties.{Ties}
-use Rattle.row_kin.specs.Taken.{first_of, taken_by, parent_by, place_by}
+use Rattle.row_kin.specs.Taken.{first_of, parent_by, place_by}
 use Rattle.row_kin.specs.Alone.{ties_of, ties_alone, ties_by_stretches}
 use Rattle.row_kin.specs.Settles.{Stretched}
 use Rattle.row_kin.proofs.Parts.{alone_of, ties_many, ties_there}
@@ -59,7 +59,7 @@ module _ (lows : List ℕ) (from to : ℕ) (order : from ≤ to) (within : to �
 
 module _ (lows ends : List ℕ) (n : ℕ) (cuts : AreCuts ends n) (all : n ≡ length lows) where
   abbrev none : Ties
-  none = ties_of 0 0 0 0
+  none = ties_of 0 0 0
 
   abbrev sub : ℕ → List ℕ
   sub c = take (number_at ends c - start_of ends c) (drop (start_of ends c) lows)
@@ -73,7 +73,7 @@ module _ (lows ends : List ℕ) (n : ℕ) (cuts : AreCuts ends n) (all : n ≡ l
   pub joined_many : length (ties_by_stretches lows ends) ≡ n
   joined_many = joined_long none (λ c. ties_alone lows (start_of ends c) (number_at ends c)) ends n cuts part_many
 
-  field : (f : Ties → ℕ) (c j : ℕ) → c < length ends → j < number_at ends c - start_of ends c → number_at (map f (ties_by_stretches lows ends)) (start_of ends c + j) ≡ f (ties_of (start_of ends c + parent_by (sub c) (length (sub c)) j) (start_of ends c + first_of (sub c) j) (place_by (sub c) (length (sub c)) j) (taken_by (sub c) j j))
+  field : (f : Ties → ℕ) (c j : ℕ) → c < length ends → j < number_at ends c - start_of ends c → number_at (map f (ties_by_stretches lows ends)) (start_of ends c + j) ≡ f (ties_of (start_of ends c + parent_by (sub c) (length (sub c)) j) (start_of ends c + first_of (sub c) j) (place_by (sub c) (length (sub c)) j))
   field f c j lt less =
       let w = cuts.within c lt in
       let m = joined_many in
@@ -84,7 +84,7 @@ module _ (lows ends : List ℕ) (n : ℕ) (cuts : AreCuts ends n) (all : n ≡ l
       ∙ ties_there (start_of ends c) (sub c) j (omega arith))
 
   -- each stretch is done by itself
-  pub joined_alone : Stretched lows (map (λ t. t.parent) (ties_by_stretches lows ends)) (map (λ t. t.low) (ties_by_stretches lows ends)) (map (λ t. t.place) (ties_by_stretches lows ends)) (map (λ t. t.count) (ties_by_stretches lows ends)) ends 0 (length ends)
+  pub joined_alone : Stretched lows (map (λ t. t.parent) (ties_by_stretches lows ends)) (map (λ t. t.low) (ties_by_stretches lows ends)) (map (λ t. t.place) (ties_by_stretches lows ends)) ends 0 (length ends)
   joined_alone = record {
     order = λ c a b. cuts.order c b;
     within = λ c a b. let w = cuts.within c b in omega arith;
@@ -92,6 +92,6 @@ module _ (lows ends : List ℕ) (n : ℕ) (cuts : AreCuts ends n) (all : n ≡ l
         let o = cuts.order c b in
         let w : number_at ends c ≤ length lows = (let v = cuts.within c b in omega arith) in
         alone_of lows (sub c) (start_of ends c) (number_at ends c) o w (sub_many lows (start_of ends c) (number_at ends c) o w) (sub_there lows (start_of ends c) (number_at ends c) o w)
-        (map (λ t. t.parent) (ties_by_stretches lows ends)) (map (λ t. t.low) (ties_by_stretches lows ends)) (map (λ t. t.place) (ties_by_stretches lows ends)) (map (λ t. t.count) (ties_by_stretches lows ends))
-        (λ j lt. field (λ t. t.parent) c j b lt) (λ j lt. field (λ t. t.low) c j b lt) (λ j lt. field (λ t. t.place) c j b lt) (λ j lt. field (λ t. t.count) c j b lt);
+        (map (λ t. t.parent) (ties_by_stretches lows ends)) (map (λ t. t.low) (ties_by_stretches lows ends)) (map (λ t. t.place) (ties_by_stretches lows ends))
+        (λ j lt. field (λ t. t.parent) c j b lt) (λ j lt. field (λ t. t.low) c j b lt) (λ j lt. field (λ t. t.place) c j b lt);
   }

@@ -161,6 +161,18 @@ module _ (lows : List ℕ) where
   none_between i a b le h =
       ap (taken_by lows i) (let e : b ≡ a + (b - a) = omega arith in e) ∙ none_more i a (b - a) (λ k l m. h k l (omega arith))
 
+  -- where none is counted, none is
+  pub none_counted : (i b k : ℕ) → taken_by lows i b ≡ 0 → k < b → taker lows k ≢ i
+  none_counted i zero k none lt is = omega arith
+  none_counted i (suc b) k none lt is = by (cases_lt k b) (λ less. none_counted i b k (omega arith) less is)
+    where
+      by : (k < b) ⊎ (b ≤ k) → (k < b → ⊥) → ⊥
+      by (inl less) before = before less
+      by (inr ge) before =
+          let e : k ≡ b = omega arith in
+          let one = ap bit (eq_true (taker lows b) i (subst (λ (j : ℕ). taker lows j ≡ i) e is)) in
+          omega arith
+
   pub none_outside : (i k : ℕ) → i < length lows → k ≤ first_of lows i → taken_by lows i k ≡ 0
   none_outside i k few le = none_between i 0 k (omega arith) (λ j a b. outside_stays i j few (omega arith))
 

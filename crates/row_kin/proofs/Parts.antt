@@ -1,13 +1,10 @@
 -- What a stretch knows by itself, in the words of all rows.
 use Rattle.std.proofs.Common.{◌≡◌, ℕ, zero, suc, ◌+◌, ◌-◌, ◌<◌, ◌≤◌, ◌⊎◌, inl, inr, Bool, List, length, map, max, get_or, sym, ap, ◌∙◌, subst, arith, ext_get_or}
 use Rattle.std.specs.Prelude.{nat_eq, if◌then◌else◌}
-use Rattle.std.specs.List.{range_with_len}
 use Rattle.std.proofs.lemmas.Bool.{cases_lt}
 use Rattle.std.proofs.lemmas.Bool.Decides.{nat_tests}
 use Rattle.std.proofs.lemmas.List.{get_or-map, length-map}
 use Rattle.std.proofs.lemmas.List.FromFn.{get_or-map-range_with_len, length-map-range_with_len}
-use Rattle.ast_rows.specs.NodeRows.{counts_of, lows_of}
-use Rattle.row_laws.specs.Climbed.{parents_by, place_at}
 use Rattle.list_cuts.specs.Cuts.{number_at}
 use Rattle.row_kin.specs.Searched.{IsNextUntil, IsBeginFrom}
 use Rattle.row_kin.specs.declared.stretches.Ties.{Ties}
@@ -15,7 +12,7 @@ use Rattle.row_kin.specs.Taken.{taker, first_of, taken_by, parent_by, place_by}
 use Rattle.row_kin.specs.Alone.{ties_of, ties_from}
 use Rattle.row_kin.specs.Settles.{DoneAlone}
 use Rattle.row_kin.proofs.Looking.{eq_false, lt_true, lt_false, is_taker, is_first}
-use Rattle.row_kin.proofs.Told.{parent_there, first_there, place_there, count_there, parent_told, first_told, place_told, count_told, many_parents}
+use Rattle.row_kin.proofs.Told.{parent_there, first_there, place_there}
 
 same_test : (from a i : ℕ) → nat_eq a i ≡ nat_eq (from + a) (from + i)
 same_test from a i = by (cases_lt a i) (cases_lt i a)
@@ -126,14 +123,13 @@ module _ (lows sub : List ℕ) (from to : ℕ) (order : from ≤ to) (within : t
       test (inl h) = same_test from (taker sub j) i ∙ ap (λ (n : ℕ). nat_eq n (from + i)) (sym h.1)
       test (inr h) = let f = h.0 in let g = h.1 in eq_false (taker sub j) i (omega arith) ∙ sym (eq_false (taker lows (from + j)) (from + i) (omega arith))
 
-  -- four lists that have it at their places
-  pub alone_of : (parents firsts places counts : List ℕ) → ((j : ℕ) → j < to - from → number_at parents (from + j) ≡ from + parent_by sub (length sub) j) → ((j : ℕ) → j < to - from → number_at firsts (from + j) ≡ from + first_of sub j) → ((j : ℕ) → j < to - from → number_at places (from + j) ≡ place_by sub (length sub) j) → ((j : ℕ) → j < to - from → number_at counts (from + j) ≡ taken_by sub j j) → DoneAlone lows parents firsts places counts from to
-  alone_of parents firsts places counts p f l c = record {
+  -- three lists that have it at their places
+  pub alone_of : (parents firsts places : List ℕ) → ((j : ℕ) → j < to - from → number_at parents (from + j) ≡ from + parent_by sub (length sub) j) → ((j : ℕ) → j < to - from → number_at firsts (from + j) ≡ from + first_of sub j) → ((j : ℕ) → j < to - from → number_at places (from + j) ≡ place_by sub (length sub) j) → DoneAlone lows parents firsts places from to
+  alone_of parents firsts places p f l = record {
     up = λ k a b. at k a b (λ (i : ℕ). number_at parents i ≡ parent_by lows to i) (λ j lt. p j lt ∙ up j (taker_there j lt));
     first = λ k a b. at k a b (λ (i : ℕ). number_at firsts i ≡ max from (first_of lows i)) (λ j lt. f j lt ∙ first_same j lt);
     place = λ k a b d. at k a b (λ (i : ℕ). taker lows i < to → number_at places i + taken_by lows (taker lows i) from ≡ taken_by lows (taker lows i) i) (λ j lt less. place j lt less (taker_there j lt)) d;
     root = λ k a b d. at k a b (λ (i : ℕ). to ≤ taker lows i → number_at places i ≡ 0) (λ j lt over. l j lt ∙ root j over (taker_there j lt)) d;
-    count = λ k a b. at k a b (λ (i : ℕ). number_at counts i + taken_by lows i from ≡ taken_by lows i i) (λ j lt. ap (λ (n : ℕ). n + taken_by lows (from + j) from) (c j lt) ∙ taken_same j j lt (omega arith));
   }
     where
       at : (k : ℕ) → from ≤ k → k < to → (P : ℕ → Type 0) → ((j : ℕ) → j < to - from → P (from + j)) → P k
@@ -166,37 +162,20 @@ module _ (lows sub : List ℕ) (from to : ℕ) (order : from ≤ to) (within : t
 -- what is known of one row of such a list
 module _ (from : ℕ) (lows : List ℕ) where
   abbrev none : Ties
-  none = ties_of 0 0 0 0
+  none = ties_of 0 0 0
 
   pub ties_many : length (ties_from from lows) ≡ length lows
   ties_many = length-map-range_with_len _ 0 (length lows)
 
-  pub ties_there : (j : ℕ) → j < length lows → get_or (ties_from from lows) j none ≡ ties_of (from + parent_by lows (length lows) j) (from + first_of lows j) (place_by lows (length lows) j) (taken_by lows j j)
+  pub ties_there : (j : ℕ) → j < length lows → get_or (ties_from from lows) j none ≡ ties_of (from + parent_by lows (length lows) j) (from + first_of lows j) (place_by lows (length lows) j)
   ties_there j lt =
       get_or-map-range_with_len _ 0 (length lows) j j none lt (omega arith)
-      ∙ sym (λ i. ties_of (from + parent_there lows j lt i) (from + first_there lows j lt i) (place_there lows j lt i) (count_there lows j lt i))
+      ∙ sym (λ i. ties_of (from + parent_there lows j lt i) (from + first_there lows j lt i) (place_there lows j lt i))
 
   -- a field of each
-  pub field_there : (f : Ties → ℕ) (j : ℕ) → j < length lows → number_at (map f (ties_from from lows)) j ≡ f (ties_of (from + parent_by lows (length lows) j) (from + first_of lows j) (place_by lows (length lows) j) (taken_by lows j j))
+  pub field_there : (f : Ties → ℕ) (j : ℕ) → j < length lows → number_at (map f (ties_from from lows)) j ≡ f (ties_of (from + parent_by lows (length lows) j) (from + first_of lows j) (place_by lows (length lows) j))
   field_there f j lt = get_or-map f (ties_from from lows) j none 0 (let m = ties_many in omega arith) ∙ ap f (ties_there j lt)
 
-  pub field_list : (f : Ties → ℕ) (ns : List ℕ) → length ns ≡ length lows → ((j : ℕ) → j < length lows → number_at ns j ≡ f (ties_of (from + parent_by lows (length lows) j) (from + first_of lows j) (place_by lows (length lows) j) (taken_by lows j j))) → ns ≡ map f (ties_from from lows)
+  pub field_list : (f : Ties → ℕ) (ns : List ℕ) → length ns ≡ length lows → ((j : ℕ) → j < length lows → number_at ns j ≡ f (ties_of (from + parent_by lows (length lows) j) (from + first_of lows j) (place_by lows (length lows) j))) → ns ≡ map f (ties_from from lows)
   field_list f ns e h =
       ext_get_or 0 ns (map f (ties_from from lows)) (e ∙ sym (length-map (ties_from from lows) f ∙ ties_many)) (λ j lt. h j (omega arith) ∙ sym (field_there f j (omega arith)))
-
-  -- the entries of four lists together
-  pub ties_list : (parents firsts places counts : List ℕ) → parents ≡ parents_by lows → firsts ≡ lows_of (parents_by lows) → places ≡ map (place_at (parents_by lows)) (range_with_len 0 (length lows)) → counts ≡ counts_of (parents_by lows) → map (λ k. ties_of (from + number_at parents k) (from + number_at firsts k) (number_at places k) (number_at counts k)) (range_with_len 0 (length parents)) ≡ ties_from from lows
-  ties_list parents firsts places counts p f l c =
-      ext_get_or none _ (ties_from from lows) (length-map-range_with_len one 0 (length parents) ∙ many ∙ sym ties_many) (λ j lt. same j (let m = many in let n = length-map-range_with_len one 0 (length parents) in omega arith))
-    where
-      many : length parents ≡ length lows
-      many = many_parents lows parents p
-
-      one : ℕ → Ties
-      one k = ties_of (from + number_at parents k) (from + number_at firsts k) (number_at places k) (number_at counts k)
-
-      same : (j : ℕ) → j < length lows → get_or (map one (range_with_len 0 (length parents))) j none ≡ get_or (ties_from from lows) j none
-      same j lt =
-          get_or-map-range_with_len one 0 (length parents) j j none (let m = many in omega arith) (omega arith)
-          ∙ (λ i. ties_of (from + parent_told lows parents p j lt i) (from + first_told lows firsts f j lt i) (place_told lows places l j lt i) (count_told lows counts c j lt i))
-          ∙ sym (ties_there j lt)

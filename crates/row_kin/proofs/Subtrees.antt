@@ -1,4 +1,4 @@
--- Where subtrees begin, how many children rows have and how many siblings stand before them, by the next rows and the beginnings of runs.
+-- Where subtrees begin, and how many siblings stand before a row, by the next rows and the beginnings of runs.
 use Rattle.std.proofs.Common.{◌≡◌, ℕ, zero, suc, ◌+◌, ◌<◌, ◌≤◌, ◌⊎◌, inl, inr, Bool, true, false, List, ◌∷◌, length, map, Some, refl, sym, ap, ◌∙◌, arith}
 use Rattle.std.specs.Prelude.{◌&&◌, nat_eq, nat_lt, nat_le, if◌then◌else◌}
 use Rattle.std.specs.List.{range_with_len}
@@ -50,9 +50,6 @@ module _ (lows : List ℕ) where
   pub parents_many : length (parents_by lows) ≡ length lows
   parents_many = length-map-range_with_len (parent_at lows) 0 (length lows)
 
-  pub nexts_many : length (nexts lows lows) ≡ length lows
-  nexts_many = length-map-range_with_len _ 0 (length lows)
-
   there : (k : ℕ) → k < length lows → par k ≡ (if nat_lt (next k) (length lows) then next k else k)
   there k lt = get_or-map-range_with_len (parent_at lows) 0 (length lows) k k 0 lt (omega arith) ∙ parents_answered lows k lt
 
@@ -65,12 +62,6 @@ module _ (lows : List ℕ) where
 
   pub next_behind : (k : ℕ) → k < length lows → k < next k
   next_behind k lt = (is_next k lt).behind
-
-  pub next_within : (k : ℕ) → k < length lows → next k ≤ length lows
-  next_within k lt = elim (cases_lt (next k) (length lows)) [
-    | inl some ↦ omega arith
-    | inr over ↦ let e = (is_next k lt).none over in omega arith
-  ]
 
   -- ---- where runs begin
   -- a row whose subtree begins before that of row i does not lie below row i

@@ -4,7 +4,7 @@ use Rattle.std.specs.Prelude.{nat_eq, if◌then◌else◌}
 use Rattle.std.specs.List.{range_with_len}
 use Rattle.std.proofs.lemmas.Bool.{cases_lt}
 use Rattle.std.proofs.lemmas.List.FromFn.{get_or-map-range_with_len, length-map-range_with_len}
-use Rattle.ast_rows.specs.NodeRows.{children_before, count_at, counts_of, low_at, lows_of}
+use Rattle.ast_rows.specs.NodeRows.{low_at, lows_of}
 use Rattle.row_laws.specs.Climbed.{parent_at, parents_by, count_before, place_at}
 use Rattle.list_cuts.specs.Cuts.{number_at}
 use Rattle.row_kin.specs.Nearest.{prev_below, behind, begins}
@@ -36,18 +36,6 @@ module _ (lows : List ℕ) where
   first_there k lt =
       ap (λ (ns : List ℕ). number_at ns k) (begins_are_lows lows)
       ∙ (let m = parents_many lows in get_or-map-range_with_len (low_at (parents_by lows)) 0 (length (parents_by lows)) k k 0 (omega arith) (omega arith))
-
-  as_children : (parents : List ℕ) (q k : ℕ) → equal_before parents k q ≡ children_before parents q k
-  as_children parents q zero = refl
-  as_children parents q (suc k) = ap (λ (n : ℕ). n + (if nat_eq (number_at parents k) q then 1 else 0)) (as_children parents q k)
-
-  pub count_there : (k : ℕ) → k < rows → taken_by lows k k ≡ count_at (parents_by lows) k
-  count_there k lt = same_count lows k k lt (omega arith) ∙ as_children (parents_by lows) k k
-
-  pub counts_told : (ns : List ℕ) → length ns ≡ rows → ((k : ℕ) → k < rows → number_at ns k ≡ taken_by lows k k) → ns ≡ counts_of (parents_by lows)
-  counts_told ns e h =
-      listed ns (count_at (parents_by lows)) rows e (λ k lt. h k lt ∙ count_there k lt)
-      ∙ ap (λ (n : ℕ). map (count_at (parents_by lows)) (range_with_len 0 n)) (sym (parents_many lows))
 
   test_sym : (a b : ℕ) → nat_eq a b ≡ nat_eq b a
   test_sym a b = by (cases_lt a b) (cases_lt b a)
@@ -87,18 +75,6 @@ module _ (lows : List ℕ) where
   places_told ns e h = listed ns (place_at (parents_by lows)) rows e (λ k lt. h k lt ∙ place_there k lt)
 
   -- ---- the values of such lists
-  pub many_parents : (ns : List ℕ) → ns ≡ parents_by lows → length ns ≡ rows
-  many_parents ns is = ap length is ∙ parents_many lows
-
-  pub many_firsts : (ns : List ℕ) → ns ≡ lows_of (parents_by lows) → length ns ≡ rows
-  many_firsts ns is = ap length is ∙ length-map-range_with_len (low_at (parents_by lows)) 0 (length (parents_by lows)) ∙ parents_many lows
-
-  pub many_places : (ns : List ℕ) → ns ≡ map (place_at (parents_by lows)) (range_with_len 0 rows) → length ns ≡ rows
-  many_places ns is = ap length is ∙ length-map-range_with_len (place_at (parents_by lows)) 0 rows
-
-  pub many_counts : (ns : List ℕ) → ns ≡ counts_of (parents_by lows) → length ns ≡ rows
-  many_counts ns is = ap length is ∙ length-map-range_with_len (count_at (parents_by lows)) 0 (length (parents_by lows)) ∙ parents_many lows
-
   pub parent_told : (ns : List ℕ) → ns ≡ parents_by lows → (k : ℕ) → k < rows → number_at ns k ≡ parent_by lows rows k
   parent_told ns is k lt = ap (λ (l : List ℕ). number_at l k) is ∙ get_or-map-range_with_len (parent_at lows) 0 rows k k 0 lt (omega arith) ∙ sym (parent_there k lt)
 
@@ -107,12 +83,6 @@ module _ (lows : List ℕ) where
 
   pub place_told : (ns : List ℕ) → ns ≡ map (place_at (parents_by lows)) (range_with_len 0 rows) → (k : ℕ) → k < rows → number_at ns k ≡ place_by lows rows k
   place_told ns is k lt = ap (λ (l : List ℕ). number_at l k) is ∙ get_or-map-range_with_len (place_at (parents_by lows)) 0 rows k k 0 lt (omega arith) ∙ sym (place_there k lt)
-
-  pub count_told : (ns : List ℕ) → ns ≡ counts_of (parents_by lows) → (k : ℕ) → k < rows → number_at ns k ≡ taken_by lows k k
-  count_told ns is k lt =
-      ap (λ (l : List ℕ). number_at l k) is
-      ∙ (let m = parents_many lows in get_or-map-range_with_len (count_at (parents_by lows)) 0 (length (parents_by lows)) k k 0 (omega arith) (omega arith))
-      ∙ sym (count_there k lt)
 
   -- no row lies behind the last one
   pub parent_within : (k : ℕ) → k < rows → parent_by lows rows k < rows

@@ -32,6 +32,14 @@ module _ (lows : List ℕ) (i : ℕ) (few : i < length lows) where
   pub top_falls : (top t : ℕ) → 0 < top → top ≤ i → t ≡ first_of lows (top - 1) → t < top
   top_falls top t some le is = let h = (is_first lows (top - 1) (omega arith)).high in omega arith
 
+  -- a row that is taken in begins no earlier than where an earlier look ended
+  pub top_above : (start top t : ℕ) → start < top → top ≤ i → Looks lows i start → t ≡ first_of lows (top - 1) → start ≤ t
+  top_above start top t less le look is = by (cases_lt t start)
+    where
+      by : (t < start) ⊎ (start ≤ t) → start ≤ t
+      by (inr ge) = ge
+      by (inl lt) = absurd (let w = look.waits (start - 1) (omega arith) in let e = inside_ends lows (top - 1) (start - 1) (omega arith) (omega arith) (omega arith) in omega arith)
+
   pub count_falls : (top t : ℕ) → 0 < top → top ≤ i → taker lows (top - 1) ≡ i → t ≡ first_of lows (top - 1) → taken_by lows i top ≡ taken_by lows i t + 1
   count_falls top t some le taken is =
       ap (taken_by lows i) (let e : top ≡ top - 1 + 1 = omega arith in e)
@@ -58,8 +66,8 @@ module _ (lows : List ℕ) (i : ℕ) (few : i < length lows) where
           let e : top - 1 ≡ k = omega arith in
           subst (λ (j : ℕ). number_at (set ns (top - 1) i) j ≡ parent_by lows (i + 1) j) e (set_same ns (top - 1) i within ∙ parent_new lows i (top - 1) taken)
 
-  pub places_taken : (ns old : List ℕ) (top t rank : ℕ) → 0 < top → top ≤ i → top - 1 < length ns → taker lows (top - 1) ≡ i → t ≡ first_of lows (top - 1) → rank ≡ taken_by lows i t → ((k : ℕ) → k < top → number_at ns k ≡ number_at old k) → ((k : ℕ) → top ≤ k → k < i → number_at ns k ≡ placed_by lows i k (number_at old k)) → (k : ℕ) → t ≤ k → k < i → number_at (set ns (top - 1) rank) k ≡ placed_by lows i k (number_at old k)
-  places_taken ns old top t rank some le within taken is ranked before done k a b = by (cases_lt k (top - 1)) (cases_lt (top - 1) k)
+  pub places_taken : (ns old : List ℕ) (top t start rank : ℕ) → 0 < top → top ≤ i → top - 1 < length ns → taker lows (top - 1) ≡ i → t ≡ first_of lows (top - 1) → rank ≡ taken_by lows i t → ((k : ℕ) → k < top → number_at ns k ≡ number_at old k) → ((k : ℕ) → top ≤ k → k < start → number_at ns k ≡ placed_by lows i k (number_at old k)) → (k : ℕ) → t ≤ k → k < start → number_at (set ns (top - 1) rank) k ≡ placed_by lows i k (number_at old k)
+  places_taken ns old top t start rank some le within taken is ranked before done k a b = by (cases_lt k (top - 1)) (cases_lt (top - 1) k)
     where
       by : (k < top - 1) ⊎ (top - 1 ≤ k) → (top - 1 < k) ⊎ (k ≤ top - 1) → number_at (set ns (top - 1) rank) k ≡ placed_by lows i k (number_at old k)
       by (inl less) any =

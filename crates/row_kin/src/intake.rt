@@ -1,7 +1,7 @@
 //! A row takes in the roots before it that lie in its subtree.
 ghost use Rattle.std.specs.Prelude.{◌≡◌, ℕ, ◌+◌, ◌-◌, ◌<◌, ◌≤◌, ◌⊎◌, true, false, length};
 ghost use Rattle.list_cuts.specs.Cuts.{number_at};
-ghost use Rattle.row_kin.specs.Taken.{first_of, taken_by, parent_by, placed_by, Looks};
+ghost use Rattle.row_kin.specs.Taken.{taker, first_of, taken_by, parent_by, placed_by, Looks};
 
 /// Where a row's subtree begins, and how many rows it takes in.
 #[derive(Clone, Copy)]
@@ -55,32 +55,10 @@ impl Taker<'_> {
         Intake { first: top, count }
     }
 
-    /// Numbers the rows that the row has taken in, from the last one down.
-    pub(crate) fn number_taken(&self, intake: Intake, firsts: &[u32], places: &mut [u32])
-        requires few { length self.now.lows.now ≤ 4294967295 }
-        requires within { self.now.row < length self.now.lows.now }
-        requires places { length places.old ≡ length self.now.lows.now }
-        requires firsts { length firsts.now ≡ length self.now.lows.now }
-        requires first { intake.first ≡ first_of self.now.lows.now self.now.row }
-        requires count { intake.count ≡ taken_by self.now.lows.now self.now.row self.now.row }
-        requires begun { (k : ℕ) → k < self.now.row → number_at firsts.now k ≡ first_of self.now.lows.now k }
-        ensures placed { (k : ℕ) → k < self.now.row → number_at places.new k ≡ placed_by self.now.lows.now self.now.row k (number_at places.old k) }
-        ensures kept { (k : ℕ) → self.now.row ≤ k → number_at places.new k ≡ number_at places.old k }
-    {
-        let mut top = self.row;
-        let mut rank = intake.count;
-        while top > intake.first {
-            rank -= 1;
-            places[top - 1] = rank;
-            top = firsts[top - 1] as usize;
-        }
-    }
-
-    /// Numbers the children of the row again, if it has taken in some of the rows before `top`, since those in its stretch come behind
-    /// them.
-    pub(crate) fn number_again(
+    /// Numbers the rows before `start` that the row has taken in, from the last one down.
+    pub(crate) fn number_taken(
         &self,
-        top: usize,
+        start: usize,
         intake: Intake,
         firsts: &[u32],
         places: &mut [u32],
@@ -89,15 +67,69 @@ impl Taker<'_> {
         requires within { self.now.row < length self.now.lows.now }
         requires places { length places.old ≡ length self.now.lows.now }
         requires firsts { length firsts.now ≡ length self.now.lows.now }
+        requires order { start ≤ self.now.row }
+        requires looks { Looks self.now.lows.now self.now.row start }
         requires first { intake.first ≡ first_of self.now.lows.now self.now.row }
-        requires count { intake.count ≡ taken_by self.now.lows.now self.now.row self.now.row }
+        requires count { intake.count ≡ taken_by self.now.lows.now self.now.row start }
+        requires begun { (k : ℕ) → k < start → number_at firsts.now k ≡ first_of self.now.lows.now k }
+        ensures placed { (k : ℕ) → k < start → number_at places.new k ≡ placed_by self.now.lows.now self.now.row k (number_at places.old k) }
+        ensures kept { (k : ℕ) → start ≤ k → number_at places.new k ≡ number_at places.old k }
+    {
+        let mut top = start;
+        let mut rank = intake.count;
+        while top > intake.first {
+            rank -= 1;
+            places[top - 1] = rank;
+            top = firsts[top - 1] as usize;
+        }
+    }
+
+    /// Moves the places of the row's children from `start` on behind those of `count` others.
+    pub(crate) fn move_behind(&self, start: usize, count: u32, firsts: &[u32], places: &mut [u32])
+        requires few { length self.now.lows.now ≤ 4294967295 }
+        requires within { self.now.row < length self.now.lows.now }
+        requires places { length places.old ≡ length self.now.lows.now }
+        requires firsts { length firsts.now ≡ length self.now.lows.now }
+        requires order { start ≤ self.now.row }
+        requires looks { Looks self.now.lows.now self.now.row start }
         requires begun { (k : ℕ) → k < self.now.row → number_at firsts.now k ≡ first_of self.now.lows.now k }
-        requires right { top ≤ intake.first → (k : ℕ) → k < self.now.row → number_at places.old k ≡ placed_by self.now.lows.now self.now.row k (number_at places.old k) }
+        requires own { (k : ℕ) → start ≤ k → k < self.now.row → taker self.now.lows.now k ≡ self.now.row → number_at places.old k + count ≡ taken_by self.now.lows.now self.now.row k }
+        ensures placed { (k : ℕ) → start ≤ k → k < self.now.row → number_at places.new k ≡ placed_by self.now.lows.now self.now.row k (number_at places.old k) }
+        ensures before { (k : ℕ) → k < start → number_at places.new k ≡ number_at places.old k }
+        ensures kept { (k : ℕ) → self.now.row ≤ k → number_at places.new k ≡ number_at places.old k }
+    {
+        let mut top = self.row;
+        while top > start {
+            places[top - 1] += count;
+            top = firsts[top - 1] as usize;
+        }
+    }
+
+    /// Numbers the children of the row again, if it has taken in some of the rows before `start`, since those in its stretch, which have
+    /// places among themselves, come behind them.
+    pub(crate) fn number_again(
+        &self,
+        start: usize,
+        intake: Intake,
+        firsts: &[u32],
+        places: &mut [u32],
+    )
+        requires few { length self.now.lows.now ≤ 4294967295 }
+        requires within { self.now.row < length self.now.lows.now }
+        requires places { length places.old ≡ length self.now.lows.now }
+        requires firsts { length firsts.now ≡ length self.now.lows.now }
+        requires order { start ≤ self.now.row }
+        requires looks { Looks self.now.lows.now self.now.row start }
+        requires first { intake.first ≡ first_of self.now.lows.now self.now.row }
+        requires count { intake.count ≡ taken_by self.now.lows.now self.now.row start }
+        requires begun { (k : ℕ) → k < self.now.row → number_at firsts.now k ≡ first_of self.now.lows.now k }
+        requires own { (k : ℕ) → start ≤ k → k < self.now.row → taker self.now.lows.now k ≡ self.now.row → number_at places.old k + intake.count ≡ taken_by self.now.lows.now self.now.row k }
         ensures placed { (k : ℕ) → k < self.now.row → number_at places.new k ≡ placed_by self.now.lows.now self.now.row k (number_at places.old k) }
         ensures kept { (k : ℕ) → self.now.row ≤ k → number_at places.new k ≡ number_at places.old k }
     {
-        if intake.first < top {
-            self.number_taken(intake, firsts, places);
+        if intake.count > 0 {
+            self.move_behind(start, intake.count, firsts, places);
+            self.number_taken(start, intake, firsts, places);
         }
     }
 }

@@ -14,8 +14,6 @@ pub struct Ties {
     pub low: u32,
     /// Its place among the children of its parent; that of a root is 0.
     pub place: u32,
-    /// How many children it has.
-    pub count: u32,
 }
 
 // Adds a number to each one of a list.
@@ -41,28 +39,20 @@ pub struct Stretch<'a> {
 }
 
 impl Stretch<'_> {
-    /// Writes what the stretch knows by itself into its parts of four lists.
-    pub fn write_alone(
-        &self,
-        parents: &mut [u32],
-        firsts: &mut [u32],
-        places: &mut [u32],
-        counts: &mut [u32],
-    )
+    /// Writes what the stretch knows by itself into its parts of three lists.
+    pub fn write_alone(&self, parents: &mut [u32], firsts: &mut [u32], places: &mut [u32])
         requires few { length self.now.lows.now ≤ 4294967295 }
         requires order { self.now.from ≤ self.now.to }
         requires within { self.now.to ≤ length self.now.lows.now }
         requires parents { length parents.old ≡ self.now.to - self.now.from }
         requires firsts { length firsts.old ≡ self.now.to - self.now.from }
         requires places { length places.old ≡ self.now.to - self.now.from }
-        requires counts { length counts.old ≡ self.now.to - self.now.from }
         ensures parents { parents.new ≡ map (λ t. t.parent) (ties_alone self.now.lows.now self.now.from self.now.to) }
         ensures firsts { firsts.new ≡ map (λ t. t.low) (ties_alone self.now.lows.now self.now.from self.now.to) }
         ensures places { places.new ≡ map (λ t. t.place) (ties_alone self.now.lows.now self.now.from self.now.to) }
-        ensures counts { counts.new ≡ map (λ t. t.count) (ties_alone self.now.lows.now self.now.from self.now.to) }
     {
         let own = &self.lows[self.from..self.to];
-        kin_into(own, parents, firsts, places, counts);
+        kin_into(own, parents, firsts, places);
         shift(parents, self.from);
         shift(firsts, self.from);
     }

@@ -6,11 +6,10 @@ use Rattle.row_kin.proofs.stretches.Stretch.settle.Given as goal
 
 abbrev pub invariant-loop-i : goal.invariant-loop-i
 invariant-loop-i l = record {
-  taken : Settling l.self.lows.now l.parents l.firsts l.places l.counts l.self.from l.self.to l.i l.top;
+  taken : Settling l.self.lows.now l.parents l.firsts l.places l.self.from l.self.to l.i l.top;
   kept_parents : (k : ℕ) → l.self.to ≤ k → number_at l.parents k ≡ number_at l.fn.parents k;
   kept_firsts : (k : ℕ) → l.self.to ≤ k → number_at l.firsts k ≡ number_at l.fn.firsts k;
   kept_places : (k : ℕ) → l.self.to ≤ k → number_at l.places k ≡ number_at l.fn.places k;
-  kept_counts : (k : ℕ) → l.self.to ≤ k → number_at l.counts k ≡ number_at l.fn.counts k;
 }
 
 abbrev pub decreases-loop-i : goal.decreases-loop-i

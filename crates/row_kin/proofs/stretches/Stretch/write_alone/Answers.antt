@@ -1,6 +1,6 @@
 -- The goals of `write_alone` that stay open.
 use Rattle.std.proofs.Common.{◌≡◌, ℕ, ◌+◌, ◌-◌, ◌<◌, List, length, take, drop, ◌∙◌, ap, arith}
-use Rattle.row_kin.proofs.Told.{parent_told, first_told, place_told, count_told, parent_within, first_within}
+use Rattle.row_kin.proofs.Told.{parent_told, first_told, place_told, parent_within, first_within}
 use Rattle.row_kin.proofs.Joined.{sub_many}
 use Rattle.row_kin.proofs.Parts.{field_list}
 use Rattle.row_kin.proofs.stretches.Stretch.write_alone.Goals as goal
@@ -52,11 +52,3 @@ returns-clause-places c =
     let many : length own ≡ s.to - s.from = sub_many s.lows.now s.from s.to c.requires.order c.requires.within in
     field_list s.from own (λ t. t.place) c.kin_into.new.places (omega arith)
     (place_told own c.kin_into.new.places c.kin_into.ensures.places)
-
-pub returns-clause-counts : goal.returns-clause-counts
-returns-clause-counts c =
-    let s = c.args.self.now in
-    let own : List ℕ = take (s.to - s.from) (drop s.from s.lows.now) in
-    let many : length own ≡ s.to - s.from = sub_many s.lows.now s.from s.to c.requires.order c.requires.within in
-    field_list s.from own (λ t. t.count) c.kin_into.new.counts (omega arith)
-    (count_told own c.kin_into.new.counts c.kin_into.ensures.counts)

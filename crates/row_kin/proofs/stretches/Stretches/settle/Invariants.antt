@@ -7,6 +7,6 @@ use Rattle.row_kin.proofs.stretches.Stretches.settle.Given as goal
 abbrev pub invariant-loop-end : goal.invariant-loop-end
 invariant-loop-end l = record {
   here : l.from ≡ start_of l.self.ends.now l.end-index;
-  done : Done l.self.lows.now l.parents l.firsts l.places l.counts l.from;
-  rest : Stretched l.self.lows.now l.parents l.firsts l.places l.counts l.self.ends.now l.end-index (length l.self.ends.now);
+  done : Done l.self.lows.now l.parents l.firsts l.places l.from;
+  rest : Stretched l.self.lows.now l.parents l.firsts l.places l.self.ends.now l.end-index (length l.self.ends.now);
 }

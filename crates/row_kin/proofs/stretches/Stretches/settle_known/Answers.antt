@@ -15,14 +15,10 @@ settle-requires-clause-firsts c = ap length c.requires.firsts ∙ length-map (ti
 pub settle-requires-clause-places : goal.settle-requires-clause-places
 settle-requires-clause-places c = ap length c.requires.places ∙ length-map (ties_by_stretches c.args.self.now.lows.now c.args.self.now.ends.now) (λ t. t.place) ∙ joined_many c.args.self.now.lows.now c.args.self.now.ends.now (length c.args.self.now.lows.now) c.requires.cuts refl
 
-pub settle-requires-clause-counts : goal.settle-requires-clause-counts
-settle-requires-clause-counts c = ap length c.requires.counts ∙ length-map (ties_by_stretches c.args.self.now.lows.now c.args.self.now.ends.now) (λ t. t.count) ∙ joined_many c.args.self.now.lows.now c.args.self.now.ends.now (length c.args.self.now.lows.now) c.requires.cuts refl
-
 pub settle-requires-clause-stretches : goal.settle-requires-clause-stretches
 settle-requires-clause-stretches c =
     let ties = ties_by_stretches c.args.self.now.lows.now c.args.self.now.ends.now in
-    subst (λ (a : List ℕ). Stretched c.args.self.now.lows.now a c.args.firsts.now c.args.places.now c.args.counts.now c.args.self.now.ends.now 0 (length c.args.self.now.ends.now)) (sym c.requires.parents)
-    (subst (λ (a : List ℕ). Stretched c.args.self.now.lows.now (map (λ t. t.parent) ties) a c.args.places.now c.args.counts.now c.args.self.now.ends.now 0 (length c.args.self.now.ends.now)) (sym c.requires.firsts)
-    (subst (λ (a : List ℕ). Stretched c.args.self.now.lows.now (map (λ t. t.parent) ties) (map (λ t. t.low) ties) a c.args.counts.now c.args.self.now.ends.now 0 (length c.args.self.now.ends.now)) (sym c.requires.places)
-    (subst (λ (a : List ℕ). Stretched c.args.self.now.lows.now (map (λ t. t.parent) ties) (map (λ t. t.low) ties) (map (λ t. t.place) ties) a c.args.self.now.ends.now 0 (length c.args.self.now.ends.now)) (sym c.requires.counts)
-    (joined_alone c.args.self.now.lows.now c.args.self.now.ends.now (length c.args.self.now.lows.now) c.requires.cuts refl))))
+    subst (λ (a : List ℕ). Stretched c.args.self.now.lows.now a c.args.firsts.now c.args.places.now c.args.self.now.ends.now 0 (length c.args.self.now.ends.now)) (sym c.requires.parents)
+    (subst (λ (a : List ℕ). Stretched c.args.self.now.lows.now (map (λ t. t.parent) ties) a c.args.places.now c.args.self.now.ends.now 0 (length c.args.self.now.ends.now)) (sym c.requires.firsts)
+    (subst (λ (a : List ℕ). Stretched c.args.self.now.lows.now (map (λ t. t.parent) ties) (map (λ t. t.low) ties) a c.args.self.now.ends.now 0 (length c.args.self.now.ends.now)) (sym c.requires.places)
+    (joined_alone c.args.self.now.lows.now c.args.self.now.ends.now (length c.args.self.now.lows.now) c.requires.cuts refl)))
