@@ -1,5 +1,5 @@
 pub mod Ranges
-pub mod Four
+pub mod Lists
 pub mod Cutting
 pub mod Joining
 pub mod Together

@@ -1,5 +1,5 @@
 -- What stretches know by themselves, in parts one behind the other, is what is known of all.
-use Rattle.std.proofs.Common.{◌≡◌, ℕ, suc, ◌+◌, ◌-◌, ◌*◌, ◌≤◌, List, [], ◌∷◌, ◌++◌, length, map, flat_map, Some, slice_get, refl, sym, ap, subst, ◌∙◌, arith, length-append}
+use Rattle.std.proofs.Common.{◌≡◌, ℕ, suc, ◌+◌, ◌*◌, ◌≤◌, List, [], ◌∷◌, ◌++◌, length, map, flat_map, Some, slice_get, refl, sym, ap, subst, ◌∙◌, arith, length-append}
 use Rattle.std.specs.List.{range_with_len}
 use Rattle.std.proofs.lemmas.List.{map-append, append-nil}
 use denote.RawPtr.{Ptr, ◌+ₚ◌}
@@ -59,7 +59,6 @@ ties_joined lows ends ys whole many has all =
       parents_are = all.parents ∙ joined (λ t. t.parent) known (λ p. p.parents) ys 0 (λ c y at. (has c y at).parents_are ∙ ap (λ k. map (λ (t : Ties). t.parent) (known k)) (z c)) ∙ count (λ t. t.parent);
       lows_are = all.lows ∙ joined (λ t. t.low) known (λ p. p.lows) ys 0 (λ c y at. (has c y at).lows_are ∙ ap (λ k. map (λ (t : Ties). t.low) (known k)) (z c)) ∙ count (λ t. t.low);
       places_are = all.places ∙ joined (λ t. t.place) known (λ p. p.places) ys 0 (λ c y at. (has c y at).places_are ∙ ap (λ k. map (λ (t : Ties). t.place) (known k)) (z c)) ∙ count (λ t. t.place);
-      counts_are = all.counts ∙ joined (λ t. t.count) known (λ p. p.counts) ys 0 (λ c y at. (has c y at).counts_are ∙ ap (λ k. map (λ (t : Ties). t.count) (known k)) (z c)) ∙ count (λ t. t.count);
     }
 
 -- where there is one stretch at most, it has all rows
@@ -72,8 +71,8 @@ ties_of_one lows [] cuts few = none lows (sym cuts.all)
 ties_of_one lows (e ∷ []) cuts few = ap (ties_alone lows 0) (sym cuts.all) ∙ sym (append-nil (ties_alone lows 0 e))
 ties_of_one lows (e ∷ d ∷ ends) cuts few = absurd (omega arith)
 
-pub tied_alone : (lows ends : List ℕ) → AreCuts ends (length lows) → length ends ≤ 1 → (ps fs ls ns : List ℕ) → AreTies (ties_alone lows 0 (length lows)) ps fs ls ns → AreTies (ties_by_stretches lows ends) ps fs ls ns
-tied_alone lows ends cuts few ps fs ls ns known = subst (λ ts. AreTies ts ps fs ls ns) (ties_of_one lows ends cuts few) known
+pub tied_alone : (lows ends : List ℕ) → AreCuts ends (length lows) → length ends ≤ 1 → (ps fs ls : List ℕ) → AreTies (ties_alone lows 0 (length lows)) ps fs ls → AreTies (ties_by_stretches lows ends) ps fs ls
+tied_alone lows ends cuts few ps fs ls known = subst (λ ts. AreTies ts ps fs ls) (ties_of_one lows ends cuts few) known
 
 -- ---- the parts that come back, from what was cut and written
 pub cuts_of : (lows ends : List ℕ) (whole : KinParts) → AreCuts ends (length lows) → (list : Column) → IsLent (length lows) (list whole) → AreCuts ends (length (part_items (list whole)))
@@ -87,7 +86,6 @@ written_stay s xs ys written = record {
   parents = λ c x y at there. (written c x y at there).place.parents;
   lows = λ c x y at there. (written c x y at there).place.lows;
   places = λ c x y at there. (written c x y at there).place.places;
-  counts = λ c x y at there. (written c x y at there).place.counts;
 }
 
 pub written_ties : (s : Stretches) (xs ys : List KinParts) → length ys ≡ length xs → Written s xs ys → (c : ℕ) (y : KinParts) → slice_get ys c ≡ Some y
@@ -109,7 +107,6 @@ back_stay xs ys is = record {
   parents = same_stay (λ p. p.parents) xs ys is;
   lows = same_stay (λ p. p.lows) xs ys is;
   places = same_stay (λ p. p.places) xs ys is;
-  counts = same_stay (λ p. p.counts) xs ys is;
 }
 
 module _ (whole : KinParts) (xs ys : List KinParts) (many : length ys ≡ length xs) where
@@ -127,7 +124,6 @@ module _ (whole : KinParts) (xs ys : List KinParts) (many : length ys ≡ length
     parents = by _ stay.parents chain.parents has.parents place.parents items.parents;
     lows = by _ stay.lows chain.lows has.lows place.lows items.lows;
     places = by _ stay.places chain.places has.places place.places items.places;
-    counts = by _ stay.counts chain.counts has.counts place.counts items.counts;
   }
     where
       by : (list : Column) → Stay list xs ys → Chain 4 (part_start (list whole)) (map list xs) → flat_map part_items (map list xs) ≡ part_items (list whole)

@@ -1,4 +1,4 @@
--- Parts of the four lists of the kin.
+-- Parts of the three lists of the kin.
 use Rattle.std.specs.Prelude.{◌≡◌, ℕ, ◌-◌, ◌^◌, ◌<◌, ◌≤◌, List, length}
 use Rattle.list_cuts.specs.Cuts.{number_at, start_of, AreCuts}
 use Rattle.list_parts.specs.declared.part.Part.{Part}
@@ -10,16 +10,15 @@ use Rattle.row_kin.specs.declared.stretches.Ties.{Ties}
 use Rattle.kin_pass.specs.Kin.{AreTies}
 use Rattle.kin_pass.specs.declared.kin_parts.KinParts.{KinParts}
 
--- one of the four lists, by the part of it
+-- one of the three lists, by the part of it
 abbrev pub Column : Type 0
 Column = KinParts → Part ℕ
 
--- what holds of each of the four
+-- what holds of each of the three
 pub record EachList (P : Column → Type 0) : Type 0 where
   pub parents : P (λ p. p.parents)
   pub lows : P (λ p. p.lows)
   pub places : P (λ p. p.places)
-  pub counts : P (λ p. p.counts)
 
 -- a part of so many values of 32 bits, which lie in one list
 pub record IsLent (n : ℕ) (part : Part ℕ) : Type 0 where
@@ -32,14 +31,13 @@ AreWide n parts = EachList (λ list. length (part_items (list parts)) ≡ n)
 
 -- the values of the parts are what is known of rows
 abbrev pub AreTiesIn : List Ties → KinParts → Type 0
-AreTiesIn ties parts = AreTies ties (part_items parts.parents) (part_items parts.lows) (part_items parts.places) (part_items parts.counts)
+AreTiesIn ties parts = AreTies ties (part_items parts.parents) (part_items parts.lows) (part_items parts.places)
 
 -- The lists have so many rows
 pub record HasRows (n : ℕ) (kin : Kin) : Type 0 where
   pub parents : length kin.parents.items ≡ n
   pub lows : length kin.lows.items ≡ n
   pub places : length kin.places.items ≡ n
-  pub counts : length kin.counts.items ≡ n
 
 -- ---- rows by stretches
 -- there is a stretch, and together they are all rows

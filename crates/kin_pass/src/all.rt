@@ -19,7 +19,6 @@ fn blank_kin(alloc: Global, rows: usize) -> Result<Kin, AllocError>
         parents: vec![in alloc; 0; rows]?,
         lows: vec![in alloc; 0; rows]?,
         places: vec![in alloc; 0; rows]?,
-        counts: vec![in alloc; 0; rows]?,
     })
 }
 
@@ -27,13 +26,12 @@ fn blank_kin(alloc: Global, rows: usize) -> Result<Kin, AllocError>
 fn write_in_one(lows: &[u32], kin: Kin) -> Kin
     requires few { length lows.now ≤ 4294967295 }
     requires wide { HasRows (length lows.now) kin }
-    ensures { AreTies (ties_alone lows.now 0 (length lows.now)) result.parents.items result.lows.items result.places.items result.counts.items }
+    ensures { AreTies (ties_alone lows.now 0 (length lows.now)) result.parents.items result.lows.items result.places.items }
 {
     let Kin {
         mut parents,
         lows: mut firsts,
         mut places,
-        mut counts,
     } = kin;
     let stretch = Stretch {
         lows,
@@ -44,13 +42,11 @@ fn write_in_one(lows: &[u32], kin: Kin) -> Kin
         parents.as_mut_slice(),
         firsts.as_mut_slice(),
         places.as_mut_slice(),
-        counts.as_mut_slice(),
     );
     Kin {
         parents,
         lows: firsts,
         places,
-        counts,
     }
 }
 
@@ -59,7 +55,7 @@ fn known_kin(crew: &impl Passes, stretches: &Stretches<'_>) -> Result<Kin, Alloc
     requires few { length stretches.now.lows.now ≤ 4294967295 }
     requires cuts { AreCuts stretches.now.ends.now (length stretches.now.lows.now) }
     requires count { length stretches.now.ends.now < 2 ^ 62 }
-    ensures { IfOk result (λ v. AreTies (known_alone stretches.now) v.parents.items v.lows.items v.places.items v.counts.items) }
+    ensures { IfOk result (λ v. AreTies (known_alone stretches.now) v.parents.items v.lows.items v.places.items) }
 {
     let blank = blank_kin(crew.alloc(), stretches.lows.len())?;
     if stretches.ends.len() <= 1 {

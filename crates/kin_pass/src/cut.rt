@@ -1,4 +1,4 @@
-//! The four lists are cut at the ends of stretches.
+//! The three lists are cut at the ends of stretches.
 ghost use Rattle.std.specs.Prelude.{◌≡◌, ℕ, ◌<◌, ◌≤◌, Some, [], length, take, drop, map, flat_map, slice_get, vec_capacity};
 ghost use Rattle.list_cuts.specs.Cuts.{number_at, AreCuts, start_of};
 ghost use Rattle.list_parts.specs.Parts.{part_items, part_start, Chain, Follows};
@@ -18,23 +18,19 @@ fn cut_in_two(parts: KinParts, at: usize) -> (KinParts, KinParts)
         parents,
         lows,
         places,
-        counts,
     } = parts;
     let (parents, next_parents) = parents.cut(at);
     let (lows, next_lows) = lows.cut(at);
     let (places, next_places) = places.cut(at);
-    let (counts, next_counts) = counts.cut(at);
     let first = KinParts {
         parents,
         lows,
         places,
-        counts,
     };
     let second = KinParts {
         parents: next_parents,
         lows: next_lows,
         places: next_places,
-        counts: next_counts,
     };
     (first, second)
 }

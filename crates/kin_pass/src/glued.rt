@@ -1,4 +1,4 @@
-//! Parts of the four lists are glued together again.
+//! Parts of the three lists are glued together again.
 ghost use Rattle.std.specs.Prelude.{◌≡◌, ◌+◌, ◌<◌, ◌++◌, length, map, flat_map};
 ghost use denote.RawPtr.{Ptr};
 ghost use Rattle.list_parts.specs.Parts.{part_items, part_start, Chain, Fits, Follows};
@@ -17,7 +17,6 @@ fn glue_two(first: KinParts, second: KinParts) -> KinParts
         parents: first.parents.glue(second.parents),
         lows: first.lows.glue(second.lows),
         places: first.places.glue(second.places),
-        counts: first.counts.glue(second.counts),
     }
 }
 

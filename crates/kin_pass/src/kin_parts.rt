@@ -1,4 +1,4 @@
-//! Parts of the four lists of the kin.
+//! Parts of the three lists of the kin.
 
 use list_parts::Part;
 
@@ -8,5 +8,4 @@ pub(crate) struct KinParts {
     pub(crate) parents: Part<u32>,
     pub(crate) lows: Part<u32>,
     pub(crate) places: Part<u32>,
-    pub(crate) counts: Part<u32>,
 }

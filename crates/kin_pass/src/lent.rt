@@ -1,4 +1,4 @@
-//! The four lists are handed out as parts, one list after the other.
+//! The three lists are handed out as parts, one list after the other.
 ghost use Rattle.std.specs.Prelude.{◌≡◌, length, IfOk};
 ghost use Rattle.std.specs.Result.{OnOk};
 ghost use Rattle.list_parts.specs.Parts.{part_items, SamePlaces};
@@ -12,125 +12,77 @@ use par_passes::Passes;
 use row_kin::{Kin, Stretches};
 use std::alloc::AllocError;
 
-// Three lists are parts. The last one is handed out.
-fn lend_counts(
+// Two lists are parts. The last one is handed out.
+fn lend_places(
     crew: &impl Passes,
     stretches: &Stretches<'_>,
-    parts: (Part<u32>, Part<u32>, Part<u32>),
-    counts: Vec<u32>,
-) -> (
-    (Part<u32>, Part<u32>, Part<u32>),
-    Vec<u32>,
-    Result<(), AllocError>,
-)
+    parts: (Part<u32>, Part<u32>),
+    places: Vec<u32>,
+) -> ((Part<u32>, Part<u32>), Vec<u32>, Result<(), AllocError>)
     requires stretches { AreStretches stretches.now }
-    requires lent { IsLent (row_count stretches.now) parts.0 × IsLent (row_count stretches.now) parts.1 × IsLent (row_count stretches.now) parts.2 }
-    requires wide { length counts.items ≡ row_count stretches.now }
-    ensures place { SamePlaces parts.0 result.0.0 × SamePlaces parts.1 result.0.1 × SamePlaces parts.2 result.0.2 }
-    ensures ties { OnOk result.2 (AreTies (known_alone stretches.now) (part_items result.0.0) (part_items result.0.1) (part_items result.0.2) result.1.items) }
+    requires lent { IsLent (row_count stretches.now) parts.0 × IsLent (row_count stretches.now) parts.1 }
+    requires wide { length places.items ≡ row_count stretches.now }
+    ensures place { SamePlaces parts.0 result.0.0 × SamePlaces parts.1 result.0.1 }
+    ensures ties { OnOk result.2 (AreTies (known_alone stretches.now) (part_items result.0.0) (part_items result.0.1) result.1.items) }
 {
-    let mut counts = counts;
-    let write = |counts: Part<u32>, parts: (Part<u32>, Part<u32>, Part<u32>)| -> (
+    let mut places = places;
+    let write = |places: Part<u32>, parts: (Part<u32>, Part<u32>)| -> (
         Part<u32>,
-        ((Part<u32>, Part<u32>, Part<u32>), Result<(), AllocError>),
+        ((Part<u32>, Part<u32>), Result<(), AllocError>),
     )
-        requires { AreStretches stretches.now × IsLent (row_count stretches.now) counts
-            × IsLent (row_count stretches.now) parts.0 × IsLent (row_count stretches.now) parts.1 × IsLent (row_count stretches.now) parts.2 }
-        ensures place { SamePlaces counts result.0 × SamePlaces parts.0 result.1.0.0 × SamePlaces parts.1 result.1.0.1 × SamePlaces parts.2 result.1.0.2 }
-        ensures ties { OnOk result.1.1 (AreTies (known_alone stretches.entry.now) (part_items result.1.0.0) (part_items result.1.0.1) (part_items result.1.0.2) (part_items result.0)) }
+        requires { AreStretches stretches.now × IsLent (row_count stretches.now) places
+            × IsLent (row_count stretches.now) parts.0 × IsLent (row_count stretches.now) parts.1 }
+        ensures place { SamePlaces places result.0 × SamePlaces parts.0 result.1.0.0 × SamePlaces parts.1 result.1.0.1 }
+        ensures ties { OnOk result.1.1 (AreTies (known_alone stretches.entry.now) (part_items result.1.0.0) (part_items result.1.0.1) (part_items result.0)) }
     {
-        let (parents, firsts, places) = parts;
+        let (parents, firsts) = parts;
         let whole = KinParts {
             parents,
             lows: firsts,
             places,
-            counts,
         };
         let (whole, done) = write_all(crew, stretches, whole);
         let KinParts {
             parents,
             lows: firsts,
             places,
-            counts,
         } = whole;
-        (counts, ((parents, firsts, places), done))
+        (places, ((parents, firsts), done))
     };
-    let (parts, done) = with_part(counts.as_mut_slice(), parts, write);
-    (parts, counts, done)
+    let (parts, done) = with_part(places.as_mut_slice(), parts, write);
+    (parts, places, done)
 }
 
-// Two lists are parts. The other two are handed out.
-fn lend_places(
-    crew: &impl Passes,
-    stretches: &Stretches<'_>,
-    parts: (Part<u32>, Part<u32>),
-    places: Vec<u32>,
-    counts: Vec<u32>,
-) -> (
-    (Part<u32>, Part<u32>),
-    (Vec<u32>, Vec<u32>),
-    Result<(), AllocError>,
-)
-    requires stretches { AreStretches stretches.now }
-    requires lent { IsLent (row_count stretches.now) parts.0 × IsLent (row_count stretches.now) parts.1 }
-    requires wide { (length places.items ≡ row_count stretches.now) × (length counts.items ≡ row_count stretches.now) }
-    ensures place { SamePlaces parts.0 result.0.0 × SamePlaces parts.1 result.0.1 }
-    ensures ties { OnOk result.2 (AreTies (known_alone stretches.now) (part_items result.0.0) (part_items result.0.1) result.1.0.items result.1.1.items) }
-{
-    let mut places = places;
-    let write = |places: Part<u32>, rest: ((Part<u32>, Part<u32>), Vec<u32>)| -> (
-        Part<u32>,
-        ((Part<u32>, Part<u32>), Vec<u32>, Result<(), AllocError>),
-    )
-        requires { AreStretches stretches.now × IsLent (row_count stretches.now) places
-            × IsLent (row_count stretches.now) rest.0.0 × IsLent (row_count stretches.now) rest.0.1 × (length rest.1.items ≡ row_count stretches.now) }
-        ensures place { SamePlaces places result.0 × SamePlaces rest.0.0 result.1.0.0 × SamePlaces rest.0.1 result.1.0.1 }
-        ensures ties { OnOk result.1.2 (AreTies (known_alone stretches.entry.now) (part_items result.1.0.0) (part_items result.1.0.1) (part_items result.0) result.1.1.items) }
-    {
-        let ((parents, firsts), counts) = rest;
-        let (parts, counts, done) = lend_counts(crew, stretches, (parents, firsts, places), counts);
-        let (parents, firsts, places) = parts;
-        (places, ((parents, firsts), counts, done))
-    };
-    let (parts, counts, done) = with_part(places.as_mut_slice(), (parts, counts), write);
-    (parts, (places, counts), done)
-}
-
-// One list is a part. The other three are handed out.
+// One list is a part. The other two are handed out.
 fn lend_lows(
     crew: &impl Passes,
     stretches: &Stretches<'_>,
     parents: Part<u32>,
-    rest: (Vec<u32>, Vec<u32>, Vec<u32>),
-) -> (
-    Part<u32>,
-    (Vec<u32>, Vec<u32>, Vec<u32>),
-    Result<(), AllocError>,
-)
+    rest: (Vec<u32>, Vec<u32>),
+) -> (Part<u32>, (Vec<u32>, Vec<u32>), Result<(), AllocError>)
     requires stretches { AreStretches stretches.now }
     requires lent { IsLent (row_count stretches.now) parents }
-    requires wide { (length rest.0.items ≡ row_count stretches.now) × (length rest.1.items ≡ row_count stretches.now) × (length rest.2.items ≡ row_count stretches.now) }
+    requires wide { (length rest.0.items ≡ row_count stretches.now) × (length rest.1.items ≡ row_count stretches.now) }
     ensures place { SamePlaces parents result.0 }
-    ensures ties { OnOk result.2 (AreTies (known_alone stretches.now) (part_items result.0) result.1.0.items result.1.1.items result.1.2.items) }
+    ensures ties { OnOk result.2 (AreTies (known_alone stretches.now) (part_items result.0) result.1.0.items result.1.1.items) }
 {
-    let (mut firsts, places, counts) = rest;
-    let write = |firsts: Part<u32>, rest: (Part<u32>, Vec<u32>, Vec<u32>)| -> (
+    let (mut firsts, places) = rest;
+    let write = |firsts: Part<u32>, rest: (Part<u32>, Vec<u32>)| -> (
         Part<u32>,
-        (Part<u32>, (Vec<u32>, Vec<u32>), Result<(), AllocError>),
+        (Part<u32>, Vec<u32>, Result<(), AllocError>),
     )
         requires { AreStretches stretches.now × IsLent (row_count stretches.now) firsts × IsLent (row_count stretches.now) rest.0
-            × (length rest.1.items ≡ row_count stretches.now) × (length rest.2.items ≡ row_count stretches.now) }
+            × (length rest.1.items ≡ row_count stretches.now) }
         ensures place { SamePlaces firsts result.0 × SamePlaces rest.0 result.1.0 }
-        ensures ties { OnOk result.1.2 (AreTies (known_alone stretches.entry.now) (part_items result.1.0) (part_items result.0) result.1.1.0.items result.1.1.1.items) }
+        ensures ties { OnOk result.1.2 (AreTies (known_alone stretches.entry.now) (part_items result.1.0) (part_items result.0) result.1.1.items) }
     {
-        let (parents, places, counts) = rest;
-        let (parts, lists, done) = lend_places(crew, stretches, (parents, firsts), places, counts);
+        let (parents, places) = rest;
+        let (parts, places, done) = lend_places(crew, stretches, (parents, firsts), places);
         let (parents, firsts) = parts;
-        (firsts, (parents, lists, done))
+        (firsts, (parents, places, done))
     };
-    let (parents, lists, done) = with_part(firsts.as_mut_slice(), (parents, places, counts), write);
-    let (places, counts) = lists;
-    (parents, (firsts, places, counts), done)
+    let (parents, places, done) = with_part(firsts.as_mut_slice(), (parents, places), write);
+    (parents, (firsts, places), done)
 }
 
 /// What the stretches know by themselves, written into these lists by the workers.
@@ -141,33 +93,31 @@ pub(crate) fn lend_all(
 ) -> Result<Kin, AllocError>
     requires stretches { AreStretches stretches.now }
     requires wide { HasRows (row_count stretches.now) kin }
-    ensures { IfOk result (λ v. AreTies (known_alone stretches.now) v.parents.items v.lows.items v.places.items v.counts.items) }
+    ensures { IfOk result (λ v. AreTies (known_alone stretches.now) v.parents.items v.lows.items v.places.items) }
 {
     let Kin {
         mut parents,
         lows: firsts,
         places,
-        counts,
     } = kin;
-    let write = |parents: Part<u32>, rest: (Vec<u32>, Vec<u32>, Vec<u32>)| -> (
+    let write = |parents: Part<u32>, rest: (Vec<u32>, Vec<u32>)| -> (
         Part<u32>,
-        ((Vec<u32>, Vec<u32>, Vec<u32>), Result<(), AllocError>),
+        ((Vec<u32>, Vec<u32>), Result<(), AllocError>),
     )
         requires { AreStretches stretches.now × IsLent (row_count stretches.now) parents
-            × (length rest.0.items ≡ row_count stretches.now) × (length rest.1.items ≡ row_count stretches.now) × (length rest.2.items ≡ row_count stretches.now) }
+            × (length rest.0.items ≡ row_count stretches.now) × (length rest.1.items ≡ row_count stretches.now) }
         ensures place { SamePlaces parents result.0 }
-        ensures ties { OnOk result.1.1 (AreTies (known_alone stretches.entry.now) (part_items result.0) result.1.0.0.items result.1.0.1.items result.1.0.2.items) }
+        ensures ties { OnOk result.1.1 (AreTies (known_alone stretches.entry.now) (part_items result.0) result.1.0.0.items result.1.0.1.items) }
     {
         let (parents, rest, done) = lend_lows(crew, stretches, parents, rest);
         (parents, (rest, done))
     };
-    let (rest, done) = with_part(parents.as_mut_slice(), (firsts, places, counts), write);
+    let (rest, done) = with_part(parents.as_mut_slice(), (firsts, places), write);
     done?;
-    let (firsts, places, counts) = rest;
+    let (firsts, places) = rest;
     Ok(Kin {
         parents,
         lows: firsts,
         places,
-        counts,
     })
 }

@@ -1,4 +1,4 @@
-//! Workers write what stretches know by themselves into their parts of the four lists.
+//! Workers write what stretches know by themselves into their parts of the three lists.
 ghost use Rattle.std.specs.Prelude.{◌≡◌, ℕ, ◌-◌, ◌<◌, ◌≤◌, Some, length, slice_get, IfOk, IfErr};
 ghost use Rattle.std.specs.Result.{OnOk};
 ghost use Rattle.list_parts.specs.Parts.{SamePlaces};
@@ -28,7 +28,6 @@ fn write_stretch(stretch: &Stretch<'_>, parts: &mut KinParts)
         parts.parents.as_mut_slice(),
         parts.lows.as_mut_slice(),
         parts.places.as_mut_slice(),
-        parts.counts.as_mut_slice(),
     );
 }
 
@@ -67,7 +66,7 @@ fn write_stretches(
     work_in_place(crew, parts, &write)
 }
 
-/// Writes what each stretch knows by itself into four lists of which these parts are all. The parts that come back lie where these do.
+/// Writes what each stretch knows by itself into three lists of which these parts are all. The parts that come back lie where these do.
 pub(crate) fn write_all(
     crew: &impl Passes,
     stretches: &Stretches<'_>,

@@ -1,7 +1,7 @@
 use Rattle.std.proofs.Common.{rules, arith, ◌≡◌, ◌<◌, suc, length, map, flat_map, subst, sym}
 use Rattle.list_parts.specs.Parts.{part_items, part_start, Chain}
 use Rattle.kin_pass.specs.Lists.{AreWide, EachList, rows_in}
-use Rattle.kin_pass.proofs.Four.{of_both, of_three}
+use Rattle.kin_pass.proofs.Lists.{of_both, of_three}
 use Rattle.kin_pass.proofs.Ranges.{each_next}
 use Rattle.kin_pass.proofs.Cutting.{place_next, whole_next, room_for, wide_next, left_next, wide_last}
 use Rattle.kin_pass.proofs.cut.cut_at_ends.Goals as goal

@@ -1,4 +1,4 @@
-use Rattle.kin_pass.proofs.Four.{of_both}
+use Rattle.kin_pass.proofs.Lists.{of_both}
 use Rattle.kin_pass.proofs.Joining.{fits_both, follows, has_next, stands_next}
 use Rattle.kin_pass.proofs.glued.glue_all.Goals as goal
 

@@ -1,5 +1,5 @@
 use Rattle.std.proofs.Common.{◌∙◌}
-use Rattle.kin_pass.proofs.Four.{of_both, of_each, of_three}
+use Rattle.kin_pass.proofs.Lists.{of_both, of_each, of_three}
 use Rattle.kin_pass.proofs.Together.{chained, cuts_of, fitting, ties_joined, whole_stays, written_stay, written_ties}
 use Rattle.kin_pass.proofs.written.write_all.Goals as goal
 
