@@ -133,24 +133,24 @@ pub(crate) struct Framed {
 pub(crate) fn emitted(
     crew: &impl Passes,
     source: &[u8],
-    framed: Framed,
+    framed: &Framed,
 ) -> Result<Vec<u32>, Refusal>
-    requires nodes { length framed.rows ≤ most_rows }
-    requires framed { (fold : Bool) × (t : Tree Prog) × IsFramed fold source.now t framed }
-    ensures ok { IfOk result (λ v. (fold : Bool) (t : Tree Prog) → IsFramed fold source.now t framed
+    requires nodes { length framed.now.rows ≤ most_rows }
+    requires framed { (fold : Bool) × (t : Tree Prog) × IsFramed fold source.now t framed.now }
+    ensures ok { IfOk result (λ v. (fold : Bool) (t : Tree Prog) → IsFramed fold source.now t framed.now
         → IsVerdict fold source.now (Accepted (folded_if fold (ast t))) × (v.items ≡ words_of (folded_if fold (ast t)))) }
     ensures few { IfOk result (λ v. length v.items ≤ most_long) }
-    ensures refused { (fold : Bool) (t : Tree Prog) → IsFramed fold source.now t framed → IfErr result (IsRefusedBy fold source.now) }
+    ensures refused { (fold : Bool) (t : Tree Prog) → IsFramed fold source.now t framed.now → IfErr result (IsRefusedBy fold source.now) }
 {
     limits_come_last();
     compiled_programs_are_clean();
-    let Framed {
-        rows,
-        names,
-        depths,
-        frames,
-    } = framed;
-    match rv_emit::code(crew, &rows, names, &depths, &frames) {
+    match rv_emit::code(
+        crew,
+        &framed.rows,
+        &framed.names,
+        &framed.depths,
+        &framed.frames,
+    ) {
         Ok(words) => Ok(words),
         Err(CodeFault::Large { bytes }) => Err(Refusal::Limit {
             code: 603,
@@ -232,5 +232,5 @@ pub fn code(
         depths,
         frames,
     };
-    emitted(crew, source, program)
+    emitted(crew, source, &program)
 }

@@ -103,18 +103,18 @@ fn passes_of_build<R: Threads + Abort + Sync>(rt: &R, alloc: Global) -> Result<P
 // parse, rows, names and types.
 const PHASES: [Passed; 5] = [(1, 1), (3, 0), (8, 0), (2, 0), (2, 0)];
 
-// Those of depths, frames, columns, sizes, places and words. Three are over the only function, and no block of the rows is whole, so there is none over
+// Those of depths, frames, sizes, places and words. Three are over the only function, and no block of the rows is whole, so there is none over
 // blocks.
-const CODE: Passed = (9, 3);
+const CODE: Passed = (7, 3);
 
 // A function with more than one block of rows, whose result can be folded.
 const LONG: &[u8] =
     b"fn main(): int { 0; 0; 0; 0; 0; 0; 0; 0; 0; 0; 0; 0; 0; 0; 0; 0; 0; 0; 0; 0; 0; 0; 0; 0; 0; 0; 0; 0; 0; 0; 0; 0; 0; 0; 0; 0; 0; 0; 0; 0; return 3+4; }";
 
-const LONG_CODE: Passed = (11, 3);
+const LONG_CODE: Passed = (9, 3);
 
 // Those of folding too, of which one is over the only operator.
-const FOLDED_CODE: Passed = (29, 4);
+const FOLDED_CODE: Passed = (27, 4);
 
 #[test]
 fn two_workers_meet_in_each_pass(rt: HostRuntime) -> Result<(), Fail> {
@@ -168,12 +168,10 @@ const BUILD: &[&[&[Shared]]] = &[
     &[&[Shared::Claim], &[Shared::Claim]],
     // types, and the first fault of them
     &[&[Shared::Deal], &[Shared::Claim, Shared::Least]],
-    // sums of depths and depths; numbers of variables, functions of calls and sizes; sums and places; children that jumps go to, and words
+    // sums of depths and depths; sizes; sums and places; children that jumps go to, and words
     &[
         &[Shared::Claim],
         &[Shared::Claim],
-        &[Shared::Deal],
-        &[Shared::Deal],
         &[Shared::Deal],
         &[Shared::Claim, Shared::Status],
         &[Shared::Deal],

@@ -37,7 +37,7 @@ head_sized layout to first =
 next_end : (at size long : ℕ) → min at long + min size (long - at) ≡ min (at + size) long
 next_end at size long = omega arith
 
-module _ (c : ProgramColumns) (layout : Layout) (s : Places) (main : ℕ) (p : Program) (good : AreAccepted c s.meant.now main p) where
+module _ (c : ProgramColumns) (layout : Layout) (s : Places) (main : ℕ) (p : Program) (good : AreAccepted c main p) where
   abbrev At : ℕ → ℕ
   At k = place_in layout c k
 
@@ -56,9 +56,9 @@ module _ (c : ProgramColumns) (layout : Layout) (s : Places) (main : ℕ) (p : P
       let end : At from ≡ At (from + 0) = ap At z in
       omega arith
   rows_long (suc n) from le =
-      let same = many c s.meant.now main p good in
-      let sized : length (piece_of c layout s main from) ≡ size_by layout (known_of (known_in c from)) = piece_sized layout (known_of (known_in c from)) (spots_in layout c s.at.now s.children.now s.meant.now from) in
-      let behind : At (from + 1) ≡ At from + size_by layout (known_of (known_in c from)) = next c s.meant.now main p good layout from (omega arith) in
+      let same = many c main p good in
+      let sized : length (piece_of c layout s main from) ≡ size_by layout (known_of (known_in c from)) = piece_sized layout (known_of (known_in c from)) (spots_in layout c s.at.now s.children.now from) in
+      let behind : At (from + 1) ≡ At from + size_by layout (known_of (known_in c from)) = next c main p good layout from (omega arith) in
       let rest : At (from + 1) + length (flat_map (piece_of c layout s main) (range_with_len (from + 1) n)) ≡ At (from + 1 + n) = rows_long n (from + 1) (omega arith) in
       let both = length-append (piece_of c layout s main from) (flat_map (piece_of c layout s main) (range_with_len (from + 1) n)) in
       let z : from + 1 + n ≡ from + suc n = omega arith in
@@ -98,14 +98,14 @@ module _ (c : ProgramColumns) (layout : Layout) (s : Places) (main : ℕ) (p : P
     place_read words k all le = elim (cases_lt k long) [ inl lt ↦ inside lt | inr past ↦ behind past ]
       where
         same : length c.kinds ≡ length (post p)
-        same = many c s.meant.now main p good
+        same = many c main p good
 
         inside : k < long → get_or s.at.now k words ≡ At k
         inside lt =
             let m = same in
             ap (λ (l : List ℕ). get_or l k words) laid.at_are
             ∙ get_or-map-range_with_len (λ m. min (At m) 4294967295) 0 long k k words lt (omega arith)
-            ∙ fits c s.meant.now main p good layout k (omega arith)
+            ∙ fits c main p good layout k (omega arith)
 
         behind : long ≤ k → get_or s.at.now k words ≡ At k
         behind past =

@@ -1,10 +1,17 @@
 -- What the words of a row are made from, by its kind.
 use Rattle.std.specs.Prelude.{ℕ, Option, None}
 use Rattle.source_meaning.specs.declared.kinds.Kind.{Kind}
-use Rattle.source_meaning.specs.declared.kinds.Kind.TheVariants.{Function, Call, While, Return}
+use Rattle.source_meaning.specs.declared.kinds.Kind.TheVariants.{Function, Var, While, Return, Assign, Call, Name}
 use Rattle.code_rules.specs.RowPieces.{Spots}
 use Rattle.rv_select.specs.declared.known.Known.{Known}
 use Rattle.rv_select.specs.declared.known.Start.{Start}
+
+-- the number of the variable that it names, assigns or declares
+abbrev pub numbered_by : Kind → ℕ → ℕ
+numbered_by Name number = number
+numbered_by Assign number = number
+numbered_by (Var ty) number = number
+numbered_by kind number = 0
 
 -- how many arguments are passed: none but by a call
 abbrev pub passed_by : Kind → ℕ → ℕ
@@ -24,7 +31,7 @@ read_by kind k = record {
   place = k.place;
   depth = k.depth;
   frame = k.frame;
-  number = k.number;
+  number = numbered_by kind k.number;
   count = passed_by kind k.count;
   next = begun_by kind k.next;
 }
