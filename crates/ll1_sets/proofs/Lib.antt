@@ -1,3 +1,4 @@
 pub mod PredictSets
 pub mod PredictionLists
+pub mod TableLists
 pub mod FrontMarks

@@ -9,7 +9,7 @@ use Rattle.ll1_sets.specs.Predict.{IsNullable, IsFirst, IsFollow, IsPredicted, I
 use Rattle.ll1_sets.specs.Width.{width_of}
 use Rattle.ll1_sets.specs.Marking.{begins, all_vanish, comes_behind}
 use Rattle.ll1_sets.specs.declared.conflicts.Conflict.{Conflict}
-use Rattle.ll1_sets.specs.Conflicts.{AreSets, AreTwoLeast, IsNextPredicted, IsLeastOn, IsLeastBelow, LeastOn, LeastBelow}
+use Rattle.ll1_sets.specs.Conflicts.{AreSets, AreTwoLeast, IsLeastOn, IsLeastBelow, LeastOn, LeastBelow}
 use Rattle.ll1_sets.specs.Laws.FormTests.{both, and, either, or_left, or_right, vanishing, beginning, vanishes_exactly, begins_exactly}
 use Rattle.ll1_sets.specs.Laws.FollowSets.{follow_behind}
 use Rattle.ll1_sets.specs.Laws.BehindBounds.{first_within, next_within}
@@ -45,9 +45,6 @@ module _ (g : Grammar) where
 
     -- ---- the least conflict
 
-    pub conflict_within : (a b : ℕ) → HasConflict g a b → a < length g.nonterminals
-    conflict_within a b h = let r = h.3 in subst (λ n. n < length g.nonterminals) r.2 (well.lefts h.0 r.0 r.1)
-
     pub ll1_where_none : ((a c : ℕ) → c < width_of g → ¬ HasConflict g a c) → IsLl1 g
     ll1_where_none none a p q b h k = go (cases_eq p q)
       where
@@ -74,48 +71,6 @@ module _ (g : Grammar) where
   pub predicted_number : (a p b : ℕ) → IsPredicted g a p b → (0 < p) × (p ≤ length g.productions)
   predicted_number a zero b h = absurd (none-some h.0 h.1)
   predicted_number a (suc p) b h = let l = slice_get_within g.productions p h.0 h.1 in (omega arith, omega arith)
-
-  module _ (a b : ℕ) where
-    pub one_passed : (passed i : ℕ) → ((p : ℕ) → passed < p → p ≤ i → ¬ IsPredicted g a p b) → ¬ IsPredicted g a (i + 1) b → (p : ℕ) → passed < p → p ≤ i + 1 → ¬ IsPredicted g a p b
-    one_passed passed i before at p l m = go (cases_lt i p)
-      where
-        go : (i < p) ⊎ (p ≤ i) → ¬ IsPredicted g a p b
-        go (inl n) = let e : i + 1 ≡ p = omega arith in subst (λ t. ¬ IsPredicted g a t b) e at
-        go (inr n) = before p l n
-
-    pub none_predicted : ((p : ℕ) → 0 < p → ¬ IsPredicted g a p b) → ¬ HasConflict g a b
-    none_predicted none h = none h.0 (predicted_number a h.0 b h.3).0 h.3
-
-    -- with no other production behind the least one
-    only_one : (p1 : ℕ) → IsNextPredicted g a b 0 p1 → ((p : ℕ) → p1 < p → ¬ IsPredicted g a p b) → (p : ℕ) → IsPredicted g a p b → p ≡ p1
-    only_one p1 least none p h = go (cases_lt p1 p) (cases_lt p p1)
-      where
-        go : (p1 < p) ⊎ (p ≤ p1) → (p < p1) ⊎ (p1 ≤ p) → p ≡ p1
-        go (inl l) m = absurd (none p l h)
-        go (inr l) (inl m) = absurd (least.no_lesser p (predicted_number a p b h).0 m h)
-        go (inr l) (inr m) = omega arith
-
-    pub one_predicted : (p1 : ℕ) → IsNextPredicted g a b 0 p1 → ((p : ℕ) → p1 < p → ¬ IsPredicted g a p b) → ¬ HasConflict g a b
-    one_predicted p1 least none h = h.2 (only_one p1 least none h.0 h.3 ∙ sym (only_one p1 least none h.1 h.4))
-
-    pub two_predicted : (p1 p2 : ℕ) → IsNextPredicted g a b 0 p1 → IsNextPredicted g a b p1 p2 → AreTwoLeast g a b p1 p2
-    two_predicted p1 p2 x y = record { first = x.predicted; second = y.predicted; in_order = y.behind; no_lesser_production = λ p h n. go p h n (cases_lt p p2) (cases_lt p1 p) }
-      where
-        go : (p : ℕ) → IsPredicted g a p b → p ≢ p1 → (p < p2) ⊎ (p2 ≤ p) → (p1 < p) ⊎ (p ≤ p1) → p2 ≤ p
-        go p h n (inr l) m = l
-        go p h n (inl l) (inl m) = absurd (y.no_lesser p m l h)
-        go p h n (inl l) (inr m) = below p h n (cases_lt p p1) m
-          where
-            below : (p : ℕ) → IsPredicted g a p b → p ≢ p1 → (p < p1) ⊎ (p1 ≤ p) → p ≤ p1 → p2 ≤ p
-            below p h n (inl k) m = absurd (x.no_lesser p (predicted_number a p b h).0 k h)
-            below p h n (inr k) m = absurd (n (omega arith))
-
-  pub one_more_nonterminal : (b a : ℕ) → ((n : ℕ) → n < a → ¬ HasConflict g n b) → ¬ HasConflict g a b → (n : ℕ) → n < a + 1 → ¬ HasConflict g n b
-  one_more_nonterminal b a before at n l = go (cases_lt n a)
-    where
-      go : (n < a) ⊎ (a ≤ n) → ¬ HasConflict g n b
-      go (inl m) = before n m
-      go (inr m) = let e : a ≡ n = omega arith in subst (λ t. ¬ HasConflict g t b) e at
 
   -- ---- one more terminal
 

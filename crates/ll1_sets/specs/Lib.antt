@@ -3,5 +3,7 @@ pub mod Predict
 pub mod Marking
 pub mod Conflicts
 pub mod LeftReached
+pub mod Table
+pub mod GrammarSets
 pub mod Behind
 pub mod Laws

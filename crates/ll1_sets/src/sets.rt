@@ -205,7 +205,7 @@ fn behind_text(alloc: Global, grammar: &Grammar, b: u16) -> Result<Vec<bool>, Al
 }
 
 /// Marks the nonterminals that have the terminal b in FOLLOW.
-pub fn follow(
+pub(crate) fn follow(
     alloc: Global,
     grammar: &Grammar,
     nullable: &[bool],

@@ -1,12 +1,11 @@
 // PSLS of each pair of terminals: its members, or its least conflict.
 
-ghost use Rattle.std.specs.Prelude.{◌≡◌, ◌<◌, ◌+◌, ℕ, [], ◌∷◌, length, IfOk, MatchOption};
-ghost use Rattle.grammar_file.specs.declared.symbols.Symbol.TheVariants.{Terminal as AnyTerminal, Nonterminal as AnyNonterminal};
+ghost use Rattle.std.specs.Prelude.{◌≡◌, ◌<◌, ◌+◌, ℕ, length, IfOk, MatchOption};
+ghost use Rattle.grammar_file.specs.declared.symbols.Symbol.TheVariants.{Terminal as AnyTerminal};
 ghost use Rattle.grammar_file.specs.Grammar.{IsWellFormed};
-ghost use Rattle.grammar_file.specs.Marks.{AreMarksOf};
 ghost use Rattle.grammar_file.specs.Spelling.{IsReduced};
 ghost use Rattle.ll1_sets.specs.Width.{width_of};
-ghost use Rattle.ll1_sets.specs.Predict.{IsNullable};
+ghost use Rattle.ll1_sets.specs.GrammarSets.{AreLl1Sets};
 ghost use Rattle.llp_tables.specs.Lookback.{IsLlp};
 ghost use Rattle.llp_tables.specs.CellSlots.{cell_of, slots_of};
 ghost use Rattle.llp_tables.specs.Slots.{Two};
@@ -17,39 +16,39 @@ ghost use Rattle.llp_tables.specs.Tables.{IsLeastLookbackConflict};
 use crate::cells::{Cell, Members};
 use crate::fault::Stack;
 use crate::least::least_members;
+use crate::pending::Search;
 use grammar_file::{Grammar, Symbol};
-use ll1_sets::{first, width_of};
+use ll1_sets::{Ll1Sets, width_of};
 use std::alloc::{AllocError, Global};
 
 /// What is closed behind each symbol where the terminal b comes next.
-fn cells_on(
-    alloc: Global,
-    grammar: &Grammar,
-    nullable: &[bool],
-    b: u16,
-) -> Result<Members, AllocError>
-    requires well_formed { IsWellFormed grammar.now }
-    requires marks { AreMarksOf grammar.now (λ a. IsNullable grammar.now (AnyNonterminal a ∷ [])) nullable.now }
+fn cells_on(alloc: Global, grammar: &Grammar, sets: &Ll1Sets, b: u16) -> Result<Members, AllocError>
+    requires sets { AreLl1Sets grammar.now sets.now }
+    requires within { b < width_of grammar.now }
     ensures { IfOk result (λ m. AreLeastMembers grammar.now b (cell_of m)) }
 {
-    let first = first(alloc, grammar, nullable, b)?;
-    least_members(alloc, grammar, nullable, first.as_slice(), b)
+    let search = Search {
+        grammar,
+        nullable: sets.nullable.as_slice(),
+        first: sets.table.column(b).first(),
+        b,
+    };
+    least_members(alloc, &search)
 }
 
 /// What is closed behind each symbol, for each terminal that comes next, the two marks among them.
 pub(crate) fn all_cells(
     alloc: Global,
     grammar: &Grammar,
-    nullable: &[bool],
+    sets: &Ll1Sets,
 ) -> Result<Vec<Members>, AllocError>
-    requires well_formed { IsWellFormed grammar.now }
-    requires marks { AreMarksOf grammar.now (λ a. IsNullable grammar.now (AnyNonterminal a ∷ [])) nullable.now }
+    requires { AreLl1Sets grammar.now sets.now }
     ensures count { IfOk result (λ all. length all.items ≡ width_of grammar.now) }
     ensures least { IfOk result (λ all. (b : ℕ) → b < width_of grammar.now → AreLeastMembers grammar.now b (cells_at all.items b)) }
 {
     let mut all = Vec::new(alloc);
     for b in 0..width_of(grammar) {
-        let members = cells_on(alloc, grammar, nullable, b)?;
+        let members = cells_on(alloc, grammar, sets, b)?;
         all.push(members)?;
     }
     Ok(all)
