@@ -1,5 +1,5 @@
 -- The sets of a grammar that is LL(1), and why a grammar isn't.
-use Rattle.std.specs.Prelude.{◌≡◌, ℕ, [], ◌∷◌}
+use Rattle.std.specs.Prelude.{[], ◌∷◌}
 use Rattle.grammar_file.specs.declared.symbols.Symbol.TheVariants.{Nonterminal}
 use Rattle.grammar_file.specs.Grammar.{Grammar, IsWellFormed}
 use Rattle.grammar_file.specs.Marks.{AreMarksOf}

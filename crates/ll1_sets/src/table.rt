@@ -133,13 +133,14 @@ impl Model for Ll1Table {
 
 impl Ll1Table {
     /// The parse table, or the least conflict: the least nonterminal, then the least terminal, then the two least productions. There is one
-    /// exactly where the grammar isn't LL(1).
+    /// exactly where the grammar isn't LL(1). An LL(1) grammar has its table, or memory runs out.
     pub fn of(alloc: Global, grammar: &Grammar, nullable: &[bool]) -> Result<Ll1Table, Ll1Fault>
         requires well_formed { IsWellFormed grammar.now }
         requires marks { AreMarksOf grammar.now (λ a. IsNullable grammar.now (AnyNonterminal a ∷ [])) nullable.now }
         ensures ok { IfOk result (λ table. IsLl1Table grammar.now table × IsLl1 grammar.now) }
         ensures fault { IfErr result (λ fault. (fault ≡ IsNoMemory)
             ⊎ ((k : AnyConflict) × (fault ≡ IsConflict k) × IsLeastConflict grammar.now k.nonterminal k.b k.p1 k.p2)) }
+        ensures served { IsLl1 grammar.now → IfErr result (λ fault. fault ≡ IsNoMemory) }
     {
         let (columns, conflict) = columns_of(alloc, grammar, nullable)?;
         match conflict {

@@ -76,9 +76,10 @@ pub(crate) fn lookbacks_by(
     requires cells { TellLookbacks grammar.now cells.now }
     ensures { IfOk result (AreLookbacksOf grammar.now) }
 {
-    let mut members = Vec::new(alloc);
-    for b in 0..width_of(grammar) {
+    let width = width_of(grammar);
+    let mut members = Vec::with_capacity(alloc, width as usize * width as usize)?;
+    for b in 0..width {
         add_row(alloc, grammar, &cells[b as usize], b, &mut members)?;
     }
-    Ok(Lookbacks::new(width_of(grammar), members))
+    Ok(Lookbacks::new(width, members))
 }

@@ -15,3 +15,4 @@ pub mod TripleLists
 pub mod TripleCounts
 pub mod StackPieceLists
 pub mod WidePieces
+pub mod WideFaultsTold

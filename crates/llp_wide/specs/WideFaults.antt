@@ -4,9 +4,17 @@ use Rattle.grammar_file.specs.declared.symbols.Symbol.TheVariants.{Terminal, Non
 use Rattle.grammar_file.specs.Grammar.{Grammar}
 use Rattle.llp_tables.specs.FaultLines.{text_of, stack_text}
 use Rattle.ll1_sets.specs.Predict.{IsLl1, IsLeastLeftRecursive, IsNotLeftRecursive, IsLeastConflict}
+use Rattle.ll1_sets.specs.declared.table.Ll1Fault.{Ll1Fault}
+use Rattle.ll1_sets.specs.declared.table.Ll1Fault.TheVariants.{LeftRecursive as IsLeftRecursion, Conflict as IsConflict, NoMemory as IsNoMemory}
 use Rattle.llp_wide.specs.Wide.{IsLeastWideConflict}
 use Rattle.llp_wide.specs.declared.fault.WideFault.{WideFault}
 use Rattle.llp_wide.specs.declared.fault.WideFault.TheVariants.{LeftRecursive, Ll1, Wide, NoMemory}
+
+-- the fault of a grammar that isn't LL(1)
+abbrev pub wide_fault_by : Ll1Fault → WideFault
+wide_fault_by (IsLeftRecursion a) = LeftRecursive a
+wide_fault_by (IsConflict k) = Ll1 k.nonterminal k.b k.p1 k.p2
+wide_fault_by IsNoMemory = NoMemory
 
 -- why a grammar has no tables: the first of these
 abbrev pub IsWideFault : Grammar → WideFault → Type 0

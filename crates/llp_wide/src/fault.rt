@@ -1,13 +1,13 @@
 // Why a grammar has no tables where two terminals are looked back at.
 
-ghost use Rattle.std.specs.Prelude.{◌≡◌, ◌++◌, codes, IfOk, OnOk, MatchOption};
+ghost use Rattle.std.specs.Prelude.{◌≡◌, ◌++◌, codes, IfOk, OnOk};
 ghost use Rattle.grammar_file.specs.declared.symbols.Symbol.TheVariants.{Terminal as AnyTerminal};
-ghost use Rattle.ll1_sets.specs.Predict.{IsLl1, IsNotLeftRecursive};
 ghost use Rattle.llp_tables.specs.FaultLines.{stack_text, text_of};
-ghost use Rattle.llp_wide.specs.WideFaults.{IsWideFault, line_of_wide_fault};
+ghost use Rattle.llp_wide.specs.WideFaults.{line_of_wide_fault};
 
 use grammar_file::{Grammar, Symbol};
-use llp_tables::{Stack, TableFault, ll1_fault, push_name, push_stack};
+use ll1_sets::Ll1Fault;
+use llp_tables::{Stack, TableFault, push_name, push_stack};
 use std::alloc::{AllocError, Global};
 
 /// The least conflict of a grammar where two terminals are looked back at, or that memory ran out. `z`, `a` and `b` are
@@ -48,33 +48,23 @@ impl From<AllocError> for WideFault {
     }
 }
 
-/// Why a grammar isn't LL(1): its least left-recursive nonterminal, else its least conflict of predictions.
-pub(crate) fn prediction_fault(
-    alloc: Global,
-    grammar: &Grammar,
-) -> Result<Option<WideFault>, AllocError>
-    ensures { IfOk result (λ o. MatchOption o (IsNotLeftRecursive grammar.now × IsLl1 grammar.now) (IsWideFault grammar.now)) }
-{
-    match ll1_fault(alloc, grammar)? {
-        Some(TableFault::LeftRecursive { nonterminal }) => {
-            Ok(Some(WideFault::LeftRecursive { nonterminal }))
-        }
-        Some(
-            TableFault::Ll1 {
-                nonterminal,
-                b,
-                p1,
-                p2,
+impl From<Ll1Fault> for WideFault {
+    ghost use Rattle.std.specs.Prelude.{◌≡◌};
+    ghost use Rattle.llp_wide.specs.WideFaults.{wide_fault_by};
+
+    ghost from_gives = { λ fault e. e ≡ wide_fault_by fault };
+
+    fn from(fault: Ll1Fault) -> WideFault {
+        match fault {
+            Ll1Fault::LeftRecursive(nonterminal) => WideFault::LeftRecursive { nonterminal },
+            Ll1Fault::Conflict(conflict) => WideFault::Ll1 {
+                nonterminal: conflict.nonterminal,
+                b: conflict.b,
+                p1: conflict.p1,
+                p2: conflict.p2,
             },
-        ) => Ok(Some(WideFault::Ll1 {
-            nonterminal,
-            b,
-            p1,
-            p2,
-        })),
-        Some(TableFault::NoMemory) => Err(AllocError),
-        Some(TableFault::Llp { .. }) => Ok(None),
-        None => Ok(None),
+            Ll1Fault::NoMemory => WideFault::NoMemory,
+        }
     }
 }
 

@@ -5,7 +5,9 @@ ghost use Rattle.grammar_file.specs.Grammar.{IsWellFormed};
 ghost use Rattle.llp_tables.specs.EntryTable.{AreTablesOf, EntryTable};
 ghost use Rattle.llp_tables.specs.Lookback.{IsLlp};
 ghost use Rattle.ll1_sets.specs.Width.{width_of};
+ghost use Rattle.ll1_sets.specs.GrammarSets.{AreLl1Sets};
 ghost use Rattle.ll1_sets.specs.Predict.{IsLl1};
+ghost use Rattle.ll1_sets.specs.Table.{IsLl1Table};
 ghost use Rattle.llp_wide.specs.Triples.{AreLayers};
 ghost use Rattle.llp_wide.specs.Wide.{IsWideLlp};
 ghost use Rattle.llp_wide.specs.WideEntries.{AreWideTablesOf};
@@ -15,14 +17,14 @@ ghost use Rattle.llp_wide.specs.declared.fault.WideFault.TheVariants.{Wide as An
 
 use crate::conflicts::WideConflict;
 use crate::endings::endings;
-use crate::fault::{WideFault, prediction_fault};
+use crate::fault::WideFault;
 use crate::lookback_table::WideLookbacks;
 use crate::pieces::pieces_of;
 use crate::survey::places;
 use crate::triples::{Triples, conflict_or_triples};
 use crate::wide_table::WideTables;
 use grammar_file::Grammar;
-use ll1_sets::{nullable, width_of};
+use ll1_sets::{Ll1Sets, Ll1Table, width_of};
 use std::alloc::{AllocError, Global};
 
 /// The fault of two stacks that may be closed.
@@ -52,6 +54,26 @@ fn lookbacks_by(grammar: &Grammar, triples: Option<Triples>) -> Result<WideLookb
     }
 }
 
+/// The sets PSLS of an LL(1) grammar where two terminals are looked back at, or its least conflict.
+fn lookbacks_of(
+    alloc: Global,
+    grammar: &Grammar,
+    sets: &Ll1Sets,
+) -> Result<WideLookbacks, WideFault>
+    requires { AreLl1Sets grammar.now sets.now }
+    ensures ok { IfOk result (λ lookbacks. AreWideLookbacksOf grammar.now lookbacks) }
+    ensures fault { IfErr result (λ fault. (fault ≡ NoMemory) ⊎ IsWideFault grammar.now fault) }
+    ensures served { IsLlp grammar.now → IfErr result (λ fault. fault ≡ NoMemory) }
+{
+    let endings = endings(alloc, grammar, sets.nullable.as_slice())?;
+    let places = places(alloc, grammar, sets.nullable.as_slice(), endings.as_slice())?;
+    let (conflict, triples) = conflict_or_triples(alloc, grammar, sets, places.as_slice())?;
+    match conflict {
+        Some(conflict) => Err(wide_fault(conflict)),
+        None => Ok(lookbacks_by(grammar, triples)?),
+    }
+}
+
 impl WideLookbacks {
     /// The sets PSLS of a grammar where two terminals are looked back at, or its least conflict: exactly where it isn't LL(1) and
     /// LLP(2,1). Where one terminal of look-back serves a grammar, two do, or memory runs out.
@@ -60,22 +82,8 @@ impl WideLookbacks {
         ensures fault { IfErr result (λ fault. (fault ≡ NoMemory) ⊎ IsWideFault grammar.now fault) }
         ensures served { IsLl1 grammar.now → IsLlp grammar.now → IfErr result (λ fault. fault ≡ NoMemory) }
     {
-        let nullable = nullable(alloc, grammar)?;
-        if let Some(fault) = prediction_fault(alloc, grammar)? {
-            return Err(fault);
-        }
-        let endings = endings(alloc, grammar, nullable.as_slice())?;
-        let places = places(alloc, grammar, nullable.as_slice(), endings.as_slice())?;
-        let (conflict, triples) = conflict_or_triples(
-            alloc,
-            grammar,
-            nullable.as_slice(),
-            places.as_slice(),
-        )?;
-        match conflict {
-            Some(conflict) => Err(wide_fault(conflict)),
-            None => Ok(lookbacks_by(grammar, triples)?),
-        }
+        let sets = Ll1Sets::of(alloc, grammar)?;
+        lookbacks_of(alloc, grammar, &sets)
     }
 }
 
@@ -83,12 +91,15 @@ impl WideLookbacks {
 fn tables_by(
     alloc: Global,
     grammar: &Grammar,
+    table: &Ll1Table,
     lookbacks: WideLookbacks,
 ) -> Result<WideTables, AllocError>
-    requires { AreWideLookbacksOf grammar.now lookbacks }
+    requires well_formed { IsWellFormed grammar.now }
+    requires table { IsLl1Table grammar.now table.now }
+    requires lookbacks { AreWideLookbacksOf grammar.now lookbacks }
     ensures { IfOk result (AreWideTablesOf grammar.now) }
 {
-    let pieces = pieces_of(alloc, grammar, lookbacks.stacks())?;
+    let pieces = pieces_of(alloc, grammar, table, lookbacks.stacks())?;
     Ok(WideTables::new(width_of(grammar), lookbacks.into_numbers(), pieces))
 }
 
@@ -100,7 +111,8 @@ impl WideTables {
         ensures fault { IfErr result (λ fault. (fault ≡ NoMemory) ⊎ IsWideFault grammar.now fault) }
         ensures tabled { (t : EntryTable) → AreTablesOf grammar.now t → IfErr result (λ fault. fault ≡ NoMemory) }
     {
-        let lookbacks = WideLookbacks::of(alloc, grammar)?;
-        Ok(tables_by(alloc, grammar, lookbacks)?)
+        let sets = Ll1Sets::of(alloc, grammar)?;
+        let lookbacks = lookbacks_of(alloc, grammar, &sets)?;
+        Ok(tables_by(alloc, grammar, &sets.table, lookbacks)?)
     }
 }

@@ -1,23 +1,21 @@
 // The numbers of the stacks that are closed for all triples, a layer for each terminal that comes next.
 
-ghost use Rattle.std.specs.Prelude.{◌≡◌, ◌<◌, ◌+◌, ◌∷◌, [], Some, None, IfOk, IfSome, OnOk, MatchOption};
-ghost use Rattle.grammar_file.specs.declared.symbols.Symbol.TheVariants.{Nonterminal as AnyNonterminal};
-ghost use Rattle.grammar_file.specs.Grammar.{IsWellFormed};
-ghost use Rattle.grammar_file.specs.Marks.{AreMarksOf};
+ghost use Rattle.std.specs.Prelude.{◌≡◌, ◌<◌, ◌+◌, Some, None, IfOk, IfSome, OnOk, MatchOption};
 ghost use Rattle.ll1_sets.specs.Width.{width_of};
-ghost use Rattle.ll1_sets.specs.Predict.{IsNullable};
+ghost use Rattle.ll1_sets.specs.GrammarSets.{AreLl1Sets};
 ghost use Rattle.llp_wide.specs.Places.{AreSpots};
 ghost use Rattle.llp_wide.specs.Triples.{AreLayers, AreTriplesUpTo};
 ghost use Rattle.llp_wide.specs.Wide.{IsWideLlp, IsLeastWideConflict};
 ghost use Rattle.llp_wide.specs.WideConflicts.{IsWideLlpOn, TellWide};
 ghost use Rattle.llp_wide.specs.WideEntries.{triple_place};
 
+use crate::claims::Ground;
 use crate::closings::{Closing, Layer};
 use crate::conflicts::{WideConflict, conflict_on, lesser};
 use crate::members::members_on;
 use crate::places::Group;
 use grammar_file::Grammar;
-use ll1_sets::width_of;
+use ll1_sets::{Ll1Sets, width_of};
 use llp_tables::Members;
 use std::alloc::{AllocError, Global};
 
@@ -107,17 +105,39 @@ fn with_layer(
     }
 }
 
+/// The members of PSLS(z,a,b) for each z and a.
+fn classes_on(
+    alloc: Global,
+    grammar: &Grammar,
+    sets: &Ll1Sets,
+    places: &[Group],
+    b: u16,
+) -> Result<Vec<Members>, AllocError>
+    requires sets { AreLl1Sets grammar.now sets.now }
+    requires places { AreSpots grammar.now places.now }
+    requires within { b < width_of grammar.now }
+    ensures { IfOk result (λ v. TellWide grammar.now b v.items) }
+{
+    let ground = Ground {
+        grammar,
+        nullable: sets.nullable.as_slice(),
+        first: sets.table.column(b).first(),
+        groups: places,
+        b,
+    };
+    members_on(alloc, &ground)
+}
+
 /// The least conflict: the least z, then the least a, then the least b, and the two least members of PSLS(z,a,b). There is none
 /// exactly where the grammar is LLP(2,1). Beside it the numbers of the stacks of all triples, and the stacks: where there is no conflict,
 /// unless memory runs out for them. The cells of one b are kept at a time.
 pub(crate) fn conflict_or_triples(
     alloc: Global,
     grammar: &Grammar,
-    nullable: &[bool],
+    sets: &Ll1Sets,
     places: &[Group],
 ) -> Result<(Option<WideConflict>, Option<Triples>), AllocError>
-    requires well_formed { IsWellFormed grammar.now }
-    requires nullable { AreMarksOf grammar.now (λ a. IsNullable grammar.now (AnyNonterminal a ∷ [])) nullable.now }
+    requires sets { AreLl1Sets grammar.now sets.now }
     requires places { AreSpots grammar.now places.now }
     ensures conflict { IfOk result (λ r. MatchOption r.0 (IsWideLlp grammar.now) (λ k. IsLeastWideConflict grammar.now k.z k.a k.b k.first k.second)) }
     ensures triples { IfOk result (λ r. IfSome r.1 (λ t. AreLayers grammar.now (width_of grammar.now) t.numbers.items t.stacks.items)) }
@@ -128,7 +148,7 @@ pub(crate) fn conflict_or_triples(
     });
     let mut best = None;
     for b in 0..width_of(grammar) {
-        let classes = members_on(alloc, grammar, nullable, places, b)?;
+        let classes = classes_on(alloc, grammar, sets, places, b)?;
         let next = conflict_on(alloc, grammar, classes.as_slice(), b)?;
         best = lesser(best, next);
         let free = if_free(&best, triples);

@@ -1,8 +1,8 @@
 -- Lists to which one item more is added.
-use Rattle.std.proofs.Common.{◌≡◌, ◌∙◌, ◌⊎◌, inl, inr, ℕ, zero, suc, ◌+◌, ◌<◌, ◌≤◌, List, [], ◌∷◌, ◌++◌, length, drop, Some, Result, Ok, Err, get_or, slice_get, refl, sym, ap, subst, arith, length-append}
+use Rattle.std.proofs.Common.{◌≡◌, ◌∙◌, ◌⊎◌, inl, inr, ℕ, zero, suc, ◌+◌, ◌<◌, ◌≤◌, List, [], ◌∷◌, ◌++◌, length, drop, Bool, true, false, Some, Result, Ok, Err, get_or, slice_get, refl, sym, ap, subst, arith, length-append}
 use Rattle.std.specs.Prelude.{IfErr}
 use Rattle.std.specs.Result.{IsErrAnd}
-use Rattle.std.proofs.lemmas.Bool.{cases_lt}
+use Rattle.std.proofs.lemmas.Bool.{cases_lt, true≢false}
 use Rattle.std.proofs.lemmas.List.{get_or_append_left, get_or_at}
 use Rattle.std.proofs.lemmas.Option.{same_Some, slice_get_within, slice_get-get_or}
 
@@ -49,3 +49,9 @@ no_rest {A} (x ∷ xs) (suc i) l = no_rest xs i (let k : suc (length xs) ≤ suc
 pub handed_on : {X E : Type 0} (P : E → Type 0) (r : Result X E) (f : E) → IsErrAnd r (λ e. e ≡ f) → P f → IfErr r P
 handed_on P (Ok x) f is p = absurd is
 handed_on P (Err e) f is p = subst P (sym is) p
+
+-- a place that is marked
+pub within_marks : (marks : List Bool) (a : ℕ) → get_or marks a false ≡ true → a < length marks
+within_marks [] a h = absurd (true≢false (sym h))
+within_marks (m ∷ marks) zero h = omega arith
+within_marks (m ∷ marks) (suc a) h = let l = within_marks marks a h in omega arith

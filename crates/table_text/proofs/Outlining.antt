@@ -83,11 +83,6 @@ item_in {A} [] n l = absurd (let k : n < 0 = l in omega arith)
 item_in {A} (x ∷ xs) zero l = (x, refl)
 item_in {A} (x ∷ xs) (suc n) l = item_in xs n (let k : suc n < suc (length xs) = l in omega arith)
 
-within_marks : (marks : List Bool) (a : ℕ) → get_or marks a false ≡ true → a < length marks
-within_marks [] a h = absurd (true≢false (sym h))
-within_marks (m ∷ marks) zero h = omega arith
-within_marks (m ∷ marks) (suc a) h = let l = within_marks marks a h in omega arith
-
 module _ (g : Grammar) (well : IsWellFormed g) (o : Outlines) (are : AreOutlines g o) where
   abbrev Member : Members
   Member = members_of o.sets
@@ -100,9 +95,7 @@ module _ (g : Grammar) (well : IsWellFormed g) (o : Outlines) (are : AreOutlines
       → left ≡ opens_behind (Some ahead) (Some last)
   left_is b ahead h (Terminal c) f [] below left reached reads = sym (same_tail reads)
   left_is b ahead h (Terminal c) f (p ∷ ps) below left reached reads = absurd (terminal-nonterminal (same_head reads.3))
-  left_is b ahead h (Nonterminal a) f ps below left reached reads =
-      let marked = within_marks ahead.first.items a (h.sets.0.complete a f) in
-      h.opens a (subst (λ (n : ℕ). a < n) h.sets.0.len marked) ps below left reached reads
+  left_is b ahead h (Nonterminal a) f ps below left reached reads = h.opens a f ps below left reached reads
 
   -- something is known where b comes next
   pub ahead_there : (a b : ℕ) (closes : List Symbol) → IsLookback g a b closes → b < length o.aheads.items

@@ -1,5 +1,5 @@
 -- What a nonterminal leaves on the stack once it has read the terminal that comes next.
-use Rattle.std.specs.Prelude.{◌≡◌, ℕ, ◌-◌, ◌<◌, List, [], ◌∷◌, ◌++◌, length, Bool, false, if◌then◌else◌, Option, Some, None, slice_get, slice_index_or}
+use Rattle.std.specs.Prelude.{◌≡◌, ℕ, ◌-◌, List, [], ◌∷◌, ◌++◌, length, Bool, false, if◌then◌else◌, Option, Some, None, slice_get, slice_index_or}
 use Rattle.grammar_file.specs.declared.symbols.Symbol.{Symbol}
 use Rattle.grammar_file.specs.declared.symbols.Symbol.TheVariants.{Terminal, Nonterminal}
 use Rattle.grammar_file.specs.Grammar.{Grammar}
@@ -34,10 +34,9 @@ LeadsTo g first predictions a stack =
     (b : ℕ) → IsLl1 g → AreSetsAhead g b first predictions → (ps : List ℕ) (below left : List Symbol) → IsReached g (Nonterminal a ∷ below) → Reads g b ps (Nonterminal a ∷ []) left
     → (qs : List ℕ) × Reads g b qs stack left × IsReached g (stack ++ below)
 
--- what is known where b comes next
+-- what is known where b comes next: what each nonterminal leaves that it may begin
 pub record IsAhead (g : Grammar) (b : ℕ) (ahead : Ahead) : Type 0 where
-  pub sets : AreSetsAhead g b ahead.first.items ahead.predictions.items
-  pub opens : (a : ℕ) → a < length g.nonterminals → IsLeftOf g b (Nonterminal a) (slice_index_or ahead.opens.items a [])
+  pub opens : (a : ℕ) → IsFirst g (Nonterminal a ∷ []) b → IsLeftOf g b (Nonterminal a) (slice_index_or ahead.opens.items a [])
 
 -- the same of each terminal, the two marks among them
 pub record AreAheads (g : Grammar) (aheads : List Ahead) : Type 0 where

@@ -2,6 +2,7 @@
 use Rattle.std.specs.Prelude.{◌≡◌, ℕ, List, [], Option, Some, None}
 use Rattle.grammar_file.specs.declared.symbols.Symbol.{Symbol}
 use Rattle.grammar_file.specs.Grammar.{Grammar, end_mark}
+use Rattle.ll1_sets.specs.Table.{IsLl1Table}
 use Rattle.llp_tables.specs.Tables.{Entry}
 use Rattle.glue_summary.specs.Pieces.{Pieces}
 use Rattle.table_text.specs.Ahead.{AreAheads, opens_at}
@@ -23,5 +24,6 @@ outline_end o = o.end
 pub record AreOutlines (g : Grammar) (o : Outlines) : Type 0 where
   pub sets : AreSetsOf g o.sets
   pub members : AreMembers g (members_of o.sets)
+  pub table : IsLl1Table g o.table
   pub aheads : AreAheads g o.aheads.items
   pub end_is : o.end ≡ end_mark g

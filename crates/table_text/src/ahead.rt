@@ -4,12 +4,12 @@
 ghost use Rattle.std.specs.Prelude.{◌≡◌, ◌⊎◌, ℕ, ◌<◌, ◌-◌, ◌∷◌, ◌++◌, [], length, Some, None, IfOk, OnOk, MatchOption, slice_get, slice_index_or};
 ghost use Rattle.grammar_file.specs.declared.symbols.Symbol.TheVariants.{Terminal as AnyTerminal, Nonterminal as AnyNonterminal};
 ghost use Rattle.grammar_file.specs.Grammar.{production};
-ghost use Rattle.grammar_file.specs.Marks.{AreMarksOf};
-ghost use Rattle.ll1_sets.specs.Predict.{IsLl1, IsNullable};
+ghost use Rattle.ll1_sets.specs.Predict.{IsLl1};
+ghost use Rattle.ll1_sets.specs.Table.{IsColumn, IsLl1Table};
 ghost use Rattle.table_text.specs.Ahead.{AreAheads, IsAhead, IsLeftBy, behind_unmarked, opens_at};
 
 use grammar_file::{Grammar, Production, Symbol};
-use ll1_sets::{first, mark_of, nullable, prediction_of, predictions, width_of};
+use ll1_sets::{Ll1Column, Ll1Table, mark_of, prediction_of, width_of};
 use std::alloc::{AllocError, Global};
 use std::marker::Model;
 
@@ -31,10 +31,6 @@ impl Model for Opened {
 /// What is known where a terminal comes next.
 #[derive(Drop)]
 pub(crate) struct Ahead {
-    /// The nonterminals that derive a form which begins with it.
-    pub first: Vec<bool>,
-    /// The production of each nonterminal that it predicts.
-    pub predictions: Vec<Option<u16>>,
     /// What each nonterminal leaves once it has read it.
     pub opens: Vec<Opened>,
 }
@@ -161,36 +157,28 @@ fn all_opens(
     Ok(opens)
 }
 
-// What is known where b comes next.
-fn ahead_of(
-    alloc: Global,
-    grammar: &Grammar,
-    nullable: &[bool],
-    b: u16,
-) -> Result<Ahead, AllocError>
-    requires ll1 { IsLl1 grammar.now }
-    requires nullable { AreMarksOf grammar.now (λ a. IsNullable grammar.now (AnyNonterminal a ∷ [])) nullable.now }
-    ensures { IfOk result (λ ahead. IsAhead grammar.now b ahead) }
+// What is known where a terminal comes next, by its column of the parse table.
+fn ahead_of(alloc: Global, grammar: &Grammar, column: &Ll1Column) -> Result<Ahead, AllocError>
+    requires { IsLl1 grammar.now }
+    ensures { IfOk result (λ ahead. (b : ℕ) → IsColumn grammar.now b column.now → IsAhead grammar.now b ahead) }
 {
-    let first = first(alloc, grammar, nullable, b)?;
-    let predictions = predictions(alloc, grammar, nullable, first.as_slice(), b)?;
-    let opens = all_opens(alloc, grammar, first.as_slice(), predictions.as_slice())?;
-    Ok(Ahead {
-        first,
-        predictions,
-        opens,
-    })
+    let opens = all_opens(alloc, grammar, column.first(), column.predictions())?;
+    Ok(Ahead { opens })
 }
 
 /// What is known of each terminal that comes next, the two marks among them.
-pub(crate) fn aheads_of(alloc: Global, grammar: &Grammar) -> Result<Vec<Ahead>, AllocError>
+pub(crate) fn aheads_of(
+    alloc: Global,
+    grammar: &Grammar,
+    table: &Ll1Table,
+) -> Result<Vec<Ahead>, AllocError>
     requires ll1 { IsLl1 grammar.now }
+    requires table { IsLl1Table grammar.now table.now }
     ensures { IfOk result (λ v. AreAheads grammar.now v.items) }
 {
-    let nullable = nullable(alloc, grammar)?;
     let mut aheads = Vec::new(alloc);
     for b in 0..width_of(grammar) {
-        aheads.push(ahead_of(alloc, grammar, nullable.as_slice(), b)?)?;
+        aheads.push(ahead_of(alloc, grammar, table.column(b))?)?;
     }
     Ok(aheads)
 }

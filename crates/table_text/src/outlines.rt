@@ -5,6 +5,8 @@ ghost use Rattle.std.specs.Prelude.{◌≡◌, OnOk, IfErr, IfOk, Ok as Success}
 ghost use Rattle.glue_summary.specs.Parse.{IsParse};
 ghost use Rattle.grammar_file.specs.Grammar.{IsWellFormed};
 ghost use Rattle.grammar_file.specs.Spelling.{IsReduced};
+ghost use Rattle.ll1_sets.specs.Predict.{IsLl1};
+ghost use Rattle.ll1_sets.specs.Table.{IsLl1Table};
 ghost use Rattle.table_text.specs.ByLookback.{AreSetsOf, IsWordFault};
 ghost use Rattle.table_text.specs.Outlines.{AreOutlines};
 
@@ -13,7 +15,7 @@ use crate::lookback::Sets;
 use crate::readings::readings;
 use glue_summary::{ParseFault, PieceTables, ended, pieces_make_the_parse};
 use grammar_file::Grammar;
-use ll1_sets::width_of;
+use ll1_sets::{Ll1Table, nullable, width_of};
 use llp_glue::meet;
 use llp_tables::Entry;
 use llp_wide::{one_terminal_serves_two, wide_tables_make_the_parse};
@@ -24,6 +26,7 @@ use std::alloc::{AllocError, Global};
 #[derive(Drop)]
 pub(crate) struct Outlines {
     pub sets: Sets,
+    pub table: Ll1Table,
     pub aheads: Vec<Ahead>,
     pub end: u16,
 }
@@ -52,6 +55,18 @@ impl PieceTables for Outlines {
     }
 }
 
+/// The parse table of an LL(1) grammar: the only refusal is that memory is out.
+fn table_of(alloc: Global, grammar: &Grammar) -> Result<Ll1Table, AllocError>
+    requires { IsLl1 grammar.now }
+    ensures { IfOk result (IsLl1Table grammar.now) }
+{
+    let nullable = nullable(alloc, grammar)?;
+    match Ll1Table::of(alloc, grammar, nullable.as_slice()) {
+        Ok(table) => Ok(table),
+        Err(_) => Err(AllocError),
+    }
+}
+
 impl Outlines {
     /// The outlines of a grammar's pieces, by its sets.
     pub(crate) fn of(alloc: Global, grammar: &Grammar, sets: Sets) -> Result<Outlines, AllocError>
@@ -60,9 +75,11 @@ impl Outlines {
     {
         one_terminal_serves_two();
         wide_tables_make_the_parse();
-        let aheads = aheads_of(alloc, grammar)?;
+        let table = table_of(alloc, grammar)?;
+        let aheads = aheads_of(alloc, grammar, &table)?;
         Ok(Outlines {
             sets,
+            table,
             aheads,
             end: width_of(grammar).saturating_sub(1),
         })

@@ -59,12 +59,12 @@ impl PieceMaker<'_> {
         requires member { (a : ℕ) × IsLookback self.now.grammar.now a b closes.now }
         ensures { IfOk result (λ piece. IsPiece self.now.grammar.now b closes.now piece.opens.items piece.productions.items) }
     {
-        let known = &self.outlines.aheads[b as usize];
+        let column = self.outlines.table.column(b);
         let ahead = LookAhead {
             grammar: self.grammar,
             b,
-            first: known.first.as_slice(),
-            predictions: known.predictions.as_slice(),
+            first: column.first(),
+            predictions: column.predictions(),
         };
         piece_by(alloc, self.room, &ahead, closes)
     }

@@ -1,4 +1,4 @@
-use Rattle.std.proofs.Common.{◌≡◌, ◌+◌, ℕ, [], ◌∷◌, ◌++◌, length, Some, slice_get, sym, subst, ◌∙◌, ap, arith, length-append}
+use Rattle.std.proofs.Common.{◌≡◌, ◌+◌, ℕ, [], ◌∷◌, length, Some, slice_get, sym, subst, ◌∙◌, ap, arith, length-append}
 use Rattle.std.specs.Prelude.{List}
 use Rattle.ll1_sets.specs.Conflicts.{LeastBelow}
 use Rattle.ll1_sets.specs.Table.{Column, IsColumn}

@@ -13,6 +13,6 @@ returns c =
     let es : List Entry = c.in_ok-pieces.pieces.items in
     let made : AreMadeFor g t.stacks es = subst (λ (stacks : List ClosedStack). AreMadeFor g stacks es) c.stacks.ensures c.in_ok-pieces.ensures.made in
     let len : length es ≡ length t.stacks = c.in_ok-pieces.ensures.len ∙ ap length c.stacks.ensures in
-    let width = c.width_of.ensures ∙ sym c.requires.width_is in
+    let width = c.width_of.ensures ∙ sym c.requires.lookbacks.width_is in
     let same = c.new.ensures ∙ (λ i. record { width = width i; entries = map (item_at es) (c.into_numbers.ensures i) }) in
-    subst (AreWideTablesOf g) (sym same) (table_of_lookbacks g t es c.requires made len)
+    subst (AreWideTablesOf g) (sym same) (table_of_lookbacks g t es c.requires.lookbacks made len)

@@ -8,7 +8,7 @@ use Rattle.llp_wide.proofs.members.members_on.Goals as goal
 
 pub returns : goal.returns
 returns c =
-    let g = c.args.grammar.now in
+    let g = c.args.ground.now.grammar.now in
     IfOk-weaker c.least_wide_members.result _ _
-    (λ v h z a. keeps_as (WideBehind g z (Terminal a) c.args.b) (IsWideLookback g z a c.args.b) (cells_at v.items z (Terminal a)) (λ w m. by_derivations g z a c.args.b w m) (λ w m. by_rules g z a c.args.b w m) (h z a))
+    (λ v h z a. keeps_as (WideBehind g z (Terminal a) c.args.ground.now.b) (IsWideLookback g z a c.args.ground.now.b) (cells_at v.items z (Terminal a)) (λ w m. by_derivations g z a c.args.ground.now.b w m) (λ w m. by_rules g z a c.args.ground.now.b w m) (h z a))
     c.least_wide_members.ensures

@@ -1,6 +1,5 @@
 use Rattle.std.proofs.Common.{◌≡◌, ◌∙◌, ◌<◌, ℕ, List, [], ◌∷◌, Some, length, slice_get, sym, ap, subst, arith, length-append}
 use Rattle.std.proofs.lemmas.Option.{slice_get-get_or}
-use Rattle.ll1_sets.specs.Predict.{ArePredictions}
 use Rattle.llp_tables.specs.Tables.{Entry}
 use Rattle.llp_wide.specs.StackPieces.{AreMadeFor}
 use Rattle.llp_wide.proofs.StackPieceLists.{made_more}
@@ -20,7 +19,6 @@ loop-n-preserved c =
     let es : List Entry = c.loop-n.pieces.items in
     let e : Entry = c.in_ok-piece_of.field-0 in
     let stack = c.index-stacks-n.result in
-    let sets = c.in_ok-sets-2.sets in
     let test = c.loop-n-test.true in
     let within : c.loop-n.n < length stacks = omega arith in
     let len : length es ≡ c.loop-n.n = c.loop-n.invariant.len in
@@ -28,7 +26,6 @@ loop-n-preserved c =
     let pushed = ap length c.in_ok-push.ensures.items in
     let more = length-append es (e ∷ []) in
     record {
-      sets = subst (λ (b : ℕ). ArePredictions g b sets.predictions.items) (sym c.in_ok-sets-2.ensures.terminal) c.in_ok-sets-2.ensures.predictions;
       made = subst (AreMadeFor g stacks) (sym c.in_ok-push.ensures.items) (made_more g stacks es stack e c.loop-n.invariant.made at c.in_ok-piece_of.ensures);
       len = omega (arith, pushed, more, len);
     }

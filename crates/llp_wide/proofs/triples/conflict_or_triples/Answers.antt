@@ -27,7 +27,7 @@ returns-clause-conflict c =
     let e = c.width_of-b-end.ensures in
     let end = c.loop-b-test.false in
     let bound = c.loop-b.auto.b-end in
-    wide_matched g c.requires.well_formed c.loop-b.b (omega arith) c.loop-b.best c.loop-b.invariant.least
+    wide_matched g c.requires.sets.well_formed c.loop-b.b (omega arith) c.loop-b.best c.loop-b.invariant.least
 
 pub returns-clause-triples : goal.returns-clause-triples
 returns-clause-triples c =

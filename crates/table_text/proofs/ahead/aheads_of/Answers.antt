@@ -14,5 +14,5 @@ loop-b-preserved c =
     record {
       len = omega (arith, pushed, more, len);
       each = subst (λ (xs : List Ahead). (n : ℕ) (ahead : Ahead) → slice_get xs n ≡ Some ahead → IsAhead c.args.grammar.now n ahead) (sym c.in_ok-push.ensures.items)
-          (one_more_there (IsAhead c.args.grammar.now) old x c.loop-b.b len c.loop-b.invariant.each c.in_ok-ahead_of.ensures);
+          (one_more_there (IsAhead c.args.grammar.now) old x c.loop-b.b len c.loop-b.invariant.each (c.in_ok-ahead_of.ensures c.loop-b.b (c.requires.table.columns c.loop-b.b c.column.result.now c.column.ensures)));
     }

@@ -1,4 +1,4 @@
-use Rattle.std.proofs.Common.{◌≡◌, ◌+◌, None, Some, get_or, set, sym, subst, ◌∙◌}
+use Rattle.std.proofs.Common.{None, Some, set, sym, subst, ◌∙◌}
 use Rattle.std.proofs.lemmas.List.{get_or_default}
 use Rattle.ll1_sets.specs.Predict.{IsPredicted}
 use Rattle.ll1_sets.specs.Conflicts.{ArePredictedTo}

@@ -1,18 +1,8 @@
-use Rattle.std.proofs.Common.{sym, subst}
-use Rattle.llp_wide.specs.WideFaults.{IsWideFault}
-use Rattle.llp_wide.proofs.StackPieceLists.{no_fault_of_served}
+use Rattle.llp_wide.proofs.WideFaultsTold.{wide_fault_told, wide_memory_told}
 use Rattle.llp_wide.proofs.lookback_table.WideLookbacks.of.Goals as goal
 
-pub returns-in-Some-clause-served : goal.returns-in-Some-clause-served
-returns-in-Some-clause-served c = λ ll1 llp.
-    let g = c.args.grammar.now in
-    let has = c.in_ok-nullable.ensures in
-    absurd (no_fault_of_served g has.well_formed has.reduced ll1 llp c.in-Some.fault (rw c.in-Some.is at c.in_ok-fault.ensures))
+pub returns-in_err-sets-clause-fault : goal.returns-in_err-sets-clause-fault
+returns-in_err-sets-clause-fault c = wide_fault_told c.args.grammar.now _ c.from_residual.result c.in_err-sets.ensures.fault c.from_residual.ensures.1
 
-pub returns-in-Some-conflict-clause-served : goal.returns-in-Some-conflict-clause-served
-returns-in-Some-conflict-clause-served c = λ ll1 llp.
-    let g = c.args.grammar.now in
-    let has = c.in_ok-nullable.ensures in
-    let plain = rw c.in_default.is at c.in_ok-fault.ensures in
-    let least = rw c.in-Some-conflict.is at c.in_ok-conflict.ensures.conflict in
-    absurd (no_fault_of_served g has.well_formed has.reduced ll1 llp c.wide_fault.result (subst (IsWideFault g) (sym c.wide_fault.ensures) (plain.0, plain.1, least)))
+pub returns-in_err-sets-clause-served : goal.returns-in_err-sets-clause-served
+returns-in_err-sets-clause-served c = λ ll1 llp. wide_memory_told _ c.from_residual.result (c.in_err-sets.ensures.served ll1) c.from_residual.ensures.1

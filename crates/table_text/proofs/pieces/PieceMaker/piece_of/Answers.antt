@@ -1,21 +1,14 @@
-use Rattle.std.proofs.Common.{◌≡◌, ◌∙◌, ◌<◌, List, Some, length, slice_get, sym, ap, subst, arith}
-use Rattle.std.proofs.lemmas.Option.{slice_get-get_or}
+use Rattle.std.proofs.Common.{sym, subst, arith}
 use Rattle.ll1_sets.specs.Predict.{ArePredictions}
-use Rattle.table_text.specs.Ahead.{IsAhead}
-use Rattle.table_text.specs.declared.ahead.Ahead.{Ahead}
-use Rattle.table_text.proofs.Outlining.{ahead_there}
+use Rattle.llp_tables.specs.Laws.LookbackBounds.{lookback_in_range}
 use Rattle.table_text.proofs.pieces.PieceMaker.piece_of.Goals as goal
 
-pub index-known-requires : goal.index-known-requires
-index-known-requires c =
-    omega (arith, ahead_there c.args.self.now.grammar.now c.requires.formed c.args.self.now.outlines.now c.requires.outlines c.requires.member.0 c.args.b c.args.closes.now c.requires.member.1)
+pub column-column-requires : goal.column-column-requires
+column-column-requires c =
+    let within = (lookback_in_range c.args.self.now.grammar.now c.requires.formed c.requires.member.0 c.args.b c.args.closes.now c.requires.member.1).1 in
+    let width = c.requires.outlines.table.width in
+    omega arith
 
 pub piece_by-requires-clause-predictions : goal.piece_by-requires-clause-predictions
 piece_by-requires-clause-predictions c =
-    let g = c.args.self.now.grammar.now in
-    let aheads : List Ahead = c.args.self.now.outlines.now.aheads.items in
-    let known : Ahead = c.index-known.result.now in
-    let within : c.args.b < length aheads = ahead_there g c.requires.formed c.args.self.now.outlines.now c.requires.outlines c.requires.member.0 c.args.b c.args.closes.now c.requires.member.1 in
-    let is : slice_get aheads c.args.b ≡ Some known = slice_get-get_or aheads c.args.b known within ∙ ap Some (sym c.index-known.ensures) in
-    let ahead : IsAhead g c.args.b known = c.requires.outlines.aheads.each c.args.b known is in
-    subst (ArePredictions g c.args.b) (sym c.as_slice-2.ensures.value) ahead.sets.1
+    subst (ArePredictions c.args.self.now.grammar.now c.args.b) (sym c.predictions.ensures) (c.requires.outlines.table.columns c.args.b c.column-column.result.now c.column-column.ensures).predictions
