@@ -46,8 +46,9 @@ pub(crate) fn all_cells(
     ensures count { IfOk result (λ all. length all.items ≡ width_of grammar.now) }
     ensures least { IfOk result (λ all. (b : ℕ) → b < width_of grammar.now → AreLeastMembers grammar.now b (cells_at all.items b)) }
 {
-    let mut all = Vec::new(alloc);
-    for b in 0..width_of(grammar) {
+    let width = width_of(grammar);
+    let mut all = Vec::with_capacity(alloc, width as usize)?;
+    for b in 0..width {
         let members = cells_on(alloc, grammar, sets, b)?;
         all.push(members)?;
     }
