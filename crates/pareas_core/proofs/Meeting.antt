@@ -27,8 +27,9 @@ use Rattle.table_text.specs.declared.answer.TableAnswer.TheVariants as answers
 use Rattle.pareas_core.specs.Output.{Due, done, due_of_verdict, due_of_machine, due_of_dump, due_of_asm, due_of_drill, drill_lines, drill_steps, due_of_table, status_of, IsDue, built, ran, shown, unshown, paged, unpaged, batched, bad_batch, emulated, listed, assembled, tabled, drilled, explained}
 use Rattle.pareas_core.specs.Reading.{WritesPrefix}
 use Rattle.pareas_core.specs.Headline.{CompilesTo, RunsAs, Runs, what_was_read, what_was_made, HasRun, reads, read_by, End, HasFailed, HasWorked, GotPrefix, IsWritten, IsAnswer, MeetsWords}
-use Rattle.pareas_core.specs.Responses.{HasRead, IsToldOf, IsUnpaged, IsUnshown, IsResponse, IsDelivered, whole, broken_off}
-use Rattle.pareas_core.specs.Shown.{IsPage, Shows}
+use Rattle.pareas_core.specs.Responses.{HasRead, IsToldOf, IsResponse, IsDelivered, whole, broken_off}
+use Rattle.pass_views.specs.Shown.{IsPage, Shows}
+use Rattle.pass_views.specs.Stopped.{IsUnpaged, IsUnshown}
 use Rattle.pareas_core.proofs.Batched.{image_compiled}
 
 -- ---- what is due

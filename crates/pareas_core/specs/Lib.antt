@@ -1,9 +1,7 @@
 pub mod Causes
 pub mod Statuses
-pub mod Coded
 pub mod Memory
 pub mod Reading
-pub mod Shown
 pub mod Output
 pub mod Batch
 pub mod Printing

@@ -20,7 +20,7 @@ use Rattle.elf_text.specs.Listing.{dumped, file_of_text}
 use Rattle.rv_text.specs.FaultLines.{line_of_fault as line_of_asm_fault}
 use Rattle.rv_text.specs.declared.fault.AsmFault.{AsmFault}
 use Rattle.rv32_emul.specs.Machine.{Outcome, Course, Exits, Faults, More, machine}
-use Rattle.pareas_core.specs.Shown.{IsPage, Shows}
+use Rattle.pass_views.specs.Shown.{IsPage, Shows}
 use Rattle.pareas_core.specs.declared.status.Status.{Status}
 use Rattle.pareas_core.specs.declared.status.Status.TheVariants.{Done, Refused, Limit, Running, Machine, Conflict, BadImage, BadGrammar, BadAsm, BadBatch}
 use Rattle.table_text.specs.Answers.{IsTableAnswer}

@@ -1,19 +1,14 @@
 -- What the steps of the program answer, on the way to the headline: what a command reads, what is due for it, and what is written.
-use Rattle.std.specs.Prelude.{◌≡◌, ℕ, ◌⊎◌, Bool, false, List, ◌++◌, length, drop, Option, Some, codes}
+use Rattle.std.specs.Prelude.{◌≡◌, ℕ, ◌⊎◌, Bool, List, ◌++◌, length, drop, Option, Some, codes}
 use Rattle.pareas_core.specs.declared.status.Status.{Status}
 use Rattle.pareas_core.specs.declared.status.Status.TheVariants as statuses
 use Rattle.pareas_core.specs.Headline.{CompilesTo, RunsAs, Runs, HasRun, read_by, End, HasFailed, GotPrefix, IsWritten}
 use Rattle.pareas_core.specs.Output.{Due, IsDue, at_place, noted}
-use Rattle.pareas_core.specs.Shown.{AllArrays, Arrays, IsPage, Shows}
-use Rattle.pareas_core.specs.declared.show.PageArrays.{PageArrays}
-use Rattle.text_columns.specs.Columns.{Column}
-use Rattle.verdict.specs.Verdict.{IsVerdict, Diagnosed, Limited}
 use Rattle.pareas_core.specs.declared.response.Output.{Output}
 use Rattle.pareas_core.specs.declared.response.Output.TheVariants.{Bytes, Answers}
 use Rattle.batch_records.specs.Answering.{all_bytes}
 use Rattle.command_line.specs.declared.command.Command.{Command}
 use Rattle.command_line.specs.declared.command.Command.TheVariants.{Build}
-use Rattle.command_line.specs.declared.command.Pass.{Pass}
 use Rattle.front_end.specs.declared.refusal.Refusal.{Refusal}
 use Rattle.front_end.specs.declared.refusal.Refusal.TheVariants.{Diagnostic, Limit, NoMemory}
 
@@ -33,39 +28,6 @@ abbrev pub IsToldOf : List ℕ → Refusal → Due → Type 0
 IsToldOf text (Diagnostic code at) d = d ≡ noted statuses.Refused (codes "error " ++ at_place text code at)
 IsToldOf text (Limit code at bytes) d = d ≡ noted statuses.Limit (codes "limit " ++ at_place text code at)
 IsToldOf text NoMemory d = ⊥
-
--- the refusal is what the compiler says of the source, and tells this of it, unless memory is out
-abbrev pub Stops : Type 0 → List ℕ → Refusal → Type 0
-Stops A text (Diagnostic code at) = IsVerdict false text (Diagnosed code at) × A
-Stops A text (Limit code at bytes) = IsVerdict false text (Limited code at bytes) × A
-Stops A text NoMemory = Unit {0}
-
--- the pass has no arrays of the source
-abbrev pub AreNone : List ℕ → Pass → Refusal → Type 0
-AreNone text pass = Stops ((columns : List Column) → ¬ Arrays text pass columns) text
-
--- the source doesn't reach the pass
-abbrev pub IsUnshown : List ℕ → Pass → Refusal → Type 0
-IsUnshown text pass = Stops ((table : List ℕ) → ¬ Shows text pass table) text
-
--- and it has no page
-abbrev pub IsUnpaged : List ℕ → Refusal → Type 0
-IsUnpaged text = Stops ((page : List ℕ) → ¬ IsPage text page) text
-
--- the arrays of all passes: those of states and of pairs, and those that the page has
-abbrev pub arrays_of : List Column → List Column → PageArrays → AllArrays
-arrays_of states pairs kept = record {
-  of_states = states;
-  of_tokens = kept.syntax.tokens.items;
-  of_pairs = pairs;
-  of_parse = kept.syntax.parse.items;
-  of_rows = kept.syntax.rows.items;
-  of_names = kept.meaning.names.items;
-  of_types = kept.meaning.types.items;
-  of_frames = kept.code.frames.items;
-  of_places = kept.code.places.items;
-  of_code = kept.code.code.items;
-}
 
 -- the bytes of an output
 abbrev pub output_bytes : Output → List ℕ

@@ -7,7 +7,7 @@ ghost use Rattle.source_meaning.specs.Grammar.{Tree, Prog, grammar};
 ghost use Rattle.source_meaning.specs.Lexemes.{tokens};
 ghost use Rattle.pareas_core.specs.Headline.{CompilesTo};
 
-use crate::coding::code;
+use back_end::code;
 use elf_file::write;
 use front_end::{Analysis, Refusal, front, front_by};
 use llp_tables::Tables;

@@ -3,8 +3,6 @@
 
 mod batch;
 mod buffer;
-mod clean;
-mod coding;
 mod compiler;
 mod drill;
 mod ends;
@@ -23,8 +21,8 @@ mod status;
 mod table;
 mod writing;
 
+pub use back_end::code;
 pub use batch::{Answers, deal};
-pub use coding::code;
 pub use compiler::{compile, compile_by};
 pub use ends::{ByteIn, ByteOut, Failed};
 pub use front_end::{Analysis, Refusal, front, language_tables};

@@ -1,6 +1,6 @@
+use Rattle.back_end.specs.Laws.HandedOn.{handed_on}
 use Rattle.front_end.specs.Front.{IsRefusedBy}
 use Rattle.front_end.specs.Laws.Refused.{refused_by}
-use Rattle.pareas_core.proofs.Chosen.{handed_on}
 use Rattle.pareas_core.proofs.compiler.compile_counting.Goals as goal
 
 pub returns-in_err-analysis-clause-refused : goal.returns-in_err-analysis-clause-refused

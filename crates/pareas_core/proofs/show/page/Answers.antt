@@ -1,13 +1,12 @@
 use Rattle.std.proofs.Common.{◌∙◌, ap, false}
 use Rattle.std.proofs.lemmas.Result.{IfOk-weaker}
 use Rattle.pareas_core.proofs.Meeting.{pages, pages_none}
-use Rattle.pareas_core.proofs.Showing.{one_page}
 use Rattle.pareas_core.proofs.show.page.Goals as goal
 
 pub returns-in-Ok : goal.returns-in-Ok
 returns-in-Ok g c =
     let text = c.args.source.now in
-    pages text (one_page text c.one_tree_of_text.ensures c.tables_are_unique.ensures.pairs (c.one_verdict.ensures false text)) c.in-Ok.text.items _ c.in-Ok.ensures.paged c.written.ensures
+    pages text (c.views_are_one.ensures.page text) c.in-Ok.text.items _ c.in-Ok.ensures.paged c.written.ensures
 
 pub returns-in-Err : goal.returns-in-Err
 returns-in-Err g c =

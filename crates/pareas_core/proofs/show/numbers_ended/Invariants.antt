@@ -1,6 +1,0 @@
-use Rattle.std.proofs.Common.{◌≡◌, map, take}
-use Rattle.source_meaning.specs.Grammar.{terminal_number}
-use Rattle.pareas_core.proofs.show.numbers_ended.Given as goal
-
-abbrev pub invariant-loop-kind : goal.invariant-loop-kind
-invariant-loop-kind l = l.numbers.items ≡ map terminal_number (take l.kind-index l.kinds)

@@ -1,0 +1,3 @@
+mod Joining
+mod NamesShown
+mod Showing

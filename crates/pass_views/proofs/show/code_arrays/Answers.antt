@@ -1,0 +1,7 @@
+use Rattle.pass_views.proofs.Showing.{passed_on, code_only}
+use Rattle.pass_views.proofs.show.code_arrays.Goals as goal
+
+pub returns-in_err-code-clause-stopped : goal.returns-in_err-code-clause-stopped
+returns-in_err-code-clause-stopped g c =
+    passed_on c.args.source.now c.from_residual.result c.in_err-code.field-0.0 c.from_residual.ensures.1
+    (λ none columns is. let h = code_only c.args.source.now columns is in none h.0 h.1) c.in_err-code.ensures.stopped
