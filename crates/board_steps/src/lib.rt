@@ -1,4 +1,4 @@
-//! Laws alone: the running boards and the plain core are tied. Each step of a claim board, a status board or a board that deals items
+//! Laws alone, which tie the running boards to the plain core. Each step of a claim board, a status board or a board that deals items
 //! is a lawful event of the core, of the same seat, or two of them, and the board is a part of the core's state before and after it. So
 //! what holds of the core after every list of events holds of the boards that run.
 #![tactic(auto)]

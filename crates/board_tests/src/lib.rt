@@ -1,4 +1,4 @@
-//! Tests of the boards, of what workers share by them, and of what a scan joins. They stand apart, so that no crate is proved a second time with its tests.
+//! Tests of the boards, of what workers share by them, and of what a scan joins. They are a crate of their own, so that no crate is proved a second time with its tests.
 #![tactic(auto)]
 
 #[cfg(test)]

@@ -1,4 +1,4 @@
-//! Listings of executable files: the text that tells a file's code, and the file of such a text.
+//! Listings of executable files: the text that lists the code of a file, and the file that such a text gives back.
 #![tactic(auto)]
 
 mod assembling;

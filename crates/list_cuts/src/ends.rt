@@ -18,8 +18,8 @@ fn stretch_size(places: usize, plan: &Plan, shares: u32) -> usize
     }
 }
 
-/// Where the stretches end in which a crew takes so many places: so many for each worker, since some take longer than others. The only refusal is that
-/// memory is out.
+/// Where the stretches end in which a crew takes this many places. Each worker has `shares` of them, since some take longer than others, where they are no
+/// shorter than a chunk. The only refusal is that memory is out.
 pub fn stretch_ends(crew: &impl Crew, places: usize, shares: u32) -> Result<Vec<usize>, AllocError>
     requires { 0 < shares }
     ensures { IfOk result (λ v. AreCuts v.items places) }

@@ -1,5 +1,5 @@
 //! What the passes of the compiler make of a source, as one page of HTML: the source, its syntax tree as a picture, and the arrays of the passes as tables. Pointing
-//! at anything in the page lights what belongs to it. The page is written part by part, so that no two tables are held at once.
+//! at an item of the page highlights everything that belongs to it. The page is written part by part, so that no two tables are held at once.
 #![tactic(auto)]
 
 mod ends;

@@ -1,4 +1,4 @@
-//! Tests of the passes over arrays. They stand apart, so that no crate is proved a second time with its tests.
+//! Tests of the passes over arrays. They are a crate of their own, so that no crate is proved a second time with its tests.
 #![tactic(auto)]
 
 #[cfg(test)]

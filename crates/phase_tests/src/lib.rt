@@ -1,4 +1,4 @@
-//! Tests of the phases of the compiler: tokens, rows, names, types, frames and code of sources. They stand apart, so that no crate is proved a second time with its tests.
+//! Tests of the phases of the compiler: tokens, rows, names, types, frames and code of sources. They are a crate of their own, so that no crate is proved a second time with its tests.
 #![tactic(auto)]
 
 #[cfg(test)]

@@ -1,4 +1,4 @@
-//! Tests of the command line and of the whole program over memory. They stand apart, so that no crate is proved a second time with its tests.
+//! Tests of the command line and of the whole program over memory. They are a crate of their own, so that no crate is proved a second time with its tests.
 #![tactic(auto)]
 
 #[cfg(test)]

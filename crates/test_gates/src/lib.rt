@@ -1,4 +1,4 @@
-//! Crews of every kind for tests, and gates that take down who is at work.
+//! Crews of every kind for tests, and gates that record which workers are at work.
 #![tactic(auto)]
 
 mod crews;
