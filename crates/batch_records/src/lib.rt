@@ -5,8 +5,6 @@ mod answer;
 mod fault;
 mod laws;
 mod reading;
-#[cfg(test)]
-mod tests;
 
 pub use answer::{Answer, AnswerKind};
 pub use fault::{BatchError, BatchFault};

@@ -7,8 +7,6 @@ mod escaped;
 mod levels;
 mod source;
 mod table;
-#[cfg(test)]
-mod tests;
 mod tree;
 mod worked;
 

@@ -14,8 +14,6 @@ mod parse;
 mod pieces;
 mod rows;
 mod states;
-#[cfg(test)]
-mod tests;
 mod tokens;
 mod types;
 mod worked;

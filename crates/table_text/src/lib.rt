@@ -12,8 +12,6 @@ mod outlines;
 mod pieces;
 mod readings;
 mod table;
-#[cfg(test)]
-mod tests;
 mod tokens;
 
 pub use answer::{TableAnswer, Text};

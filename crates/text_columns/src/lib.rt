@@ -3,8 +3,6 @@
 
 mod column;
 mod table;
-#[cfg(test)]
-mod tests;
 mod worked;
 
 pub use column::{Align, Column};

@@ -1,7 +1,8 @@
-use crate::column::{Align, Column};
-use crate::table::push_table;
+// Columns of text, and tables of them.
+
 use std::alloc::{AllocError, Global};
 use std::test::Fail;
+use text_columns::{Align, Column, push_table};
 
 /// A column of cells.
 fn column_of(

@@ -1,7 +1,7 @@
-//! The parts of a page, whose arrays are made by hand.
+// The parts of a page, whose arrays are made by hand.
 
-use crate::{push_closing, push_opening, push_source_box, push_table_box, push_tree_box};
 use ast_rows::{Rows, Tokens};
+use pass_page::{push_closing, push_opening, push_source_box, push_table_box, push_tree_box};
 use source_meaning::{BinaryOp, Kind, Terminal, ValueType};
 use std::alloc::{AllocError, Global};
 use std::test::Fail;

@@ -1,12 +1,12 @@
-//! The tables of a worked source, whose arrays are made by hand.
+// The tables of a worked source, whose arrays are made by hand.
 
-use crate::{
-    code_columns, frame_columns, name_columns, pair_columns, parse_columns, place_columns,
-    row_columns, state_columns, table, token_columns, type_columns,
-};
 use ast_rows::{Names, Rows, Tokens, Types};
 use grammar_file::Grammar;
 use llp_tables::Tables;
+use pass_tables::{
+    code_columns, frame_columns, name_columns, pair_columns, parse_columns, place_columns,
+    row_columns, state_columns, table, token_columns, type_columns,
+};
 use rv_regs::{Frame, Frames};
 use source_meaning::{Kind, Terminal, UnaryOp, ValueType};
 use state_monoid::Dfa;

@@ -1,8 +1,10 @@
+// The records of a batch, and its answers.
+
 ghost use Rattle.std.specs.Prelude.{◌≤◌};
 
-use crate::answer::{Answer, AnswerKind};
-use crate::fault::{BatchError, BatchFault};
-use crate::reading::{MOST_RECORDS, Record, read_records, source_of};
+use batch_records::{
+    Answer, AnswerKind, BatchError, BatchFault, MOST_RECORDS, Record, read_records, source_of,
+};
 use std::alloc::{AllocError, Global};
 use std::test::Fail;
 
