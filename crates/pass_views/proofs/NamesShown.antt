@@ -1,7 +1,6 @@
 -- What is shown of names, by the rows that they mean, is what the program binds and declares.
-use Rattle.std.proofs.Common.{◌≡◌, ◌∙◌, ℕ, zero, suc, ◌+◌, ◌<◌, Bool, true, false, List, [], ◌∷◌, length, get_or, map, Option, Some, None, if◌then◌else◌, refl, sym, ap, subst, arith}
+use Rattle.std.proofs.Common.{◌≡◌, ◌∙◌, ℕ, zero, suc, ◌<◌, Bool, true, false, List, [], ◌∷◌, length, Option, Some, None, if◌then◌else◌, refl, sym, ap, subst, arith}
 use Rattle.std.specs.Prelude.{is_some, option_map, slice_index_or}
-use Rattle.std.specs.List.{range_with_len}
 use Rattle.std.proofs.lemmas.List.{get_or-map, length-map}
 use Rattle.std.proofs.lemmas.List.FromFn.{length-map-range_with_len, get_or-map-range_with_len}
 use Rattle.ast_rows.specs.NameRows.{NameRows}
@@ -14,7 +13,7 @@ use Rattle.source_meaning.specs.Rows.{Row, post}
 use Rattle.source_meaning.specs.Scope.{Variable, Site, Part, an_expr, a_stmt, a_param, sites, variable_of, function_of, meant_by, scope_fault, scope_faults, bindings}
 use Rattle.row_rules.specs.Alignment.{IsNamedProgram, Label, expr_kind, stmt_label, part_label, site_labels, row_labels}
 use Rattle.row_rules.specs.Means.{AreNames, token_by}
-use Rattle.row_rules.specs.Visible.{declares, site_at, row_at, nowhere, no_row, declared_at as variable_at}
+use Rattle.row_rules.specs.Visible.{declares, site_at, row_at, nowhere, no_row}
 use Rattle.row_rules.specs.Laws.Aligned.{program_aligned}
 use Rattle.row_rules.specs.Laws.Walked.{length_labels, length_row_labels}
 use Rattle.row_laws.specs.Laws.Placed.{same_list}

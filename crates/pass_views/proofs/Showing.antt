@@ -1,5 +1,5 @@
 -- What is shown of a source is one text, and what refuses a source before a pass leaves nothing to show of it.
-use Rattle.std.proofs.Common.{◌≡◌, ◌≢◌, ◌∙◌, ℕ, ◌-◌, ◌*◌, ◌<◌, ◌≤◌, ◌⊎◌, inl, inr, Bool, false, List, [], ◌∷◌, ◌++◌, length, map, Option, Some, None, nat_lt, Result, Ok, Err, refl, sym, ap, subst, arith}
+use Rattle.std.proofs.Common.{◌≡◌, ◌≢◌, ◌∙◌, ℕ, ◌-◌, ◌*◌, ◌<◌, ◌≤◌, ◌⊎◌, inl, inr, false, List, [], ◌∷◌, length, map, Option, Some, None, nat_lt, Result, Ok, Err, refl, sym, ap, subst, arith}
 use Rattle.std.specs.Prelude.{IfErr, IsErrAnd}
 use Rattle.std.specs.List.{find}
 use Rattle.std.proofs.lemmas.Bool.{cases_lt}
@@ -318,6 +318,10 @@ module _ (text : List ℕ) where
   pub stopped_call : {T A B : Type 0} (r : Result T Refusal) → IfErr r (IsRefused text) → IfErr r (TellsThat A) → (A → B) → IfErr r (Stops B text)
   stopped_call (Ok x) h a f = tt
   stopped_call (Err e) h a f = stopped e h a f
+
+  pub stopped_call_by : {T A B : Type 0} (r : Result T Refusal) → IfErr r (IsRefusedBy false text) → IfErr r (TellsThat A) → (A → B) → IfErr r (Stops B text)
+  stopped_call_by (Ok x) h a f = tt
+  stopped_call_by (Err e) h a f = stopped_by e h a f
 
   pub told_size : {A : Type 0} (r : Refusal) → IsRefused text r → most_source < length text → (¬ (length text ≤ most_source) → A) → Stops A text r
   told_size (Diagnostic code at) h large f = (h false, f (λ fits. absurd (omega arith)))

@@ -4,19 +4,21 @@
 ghost use Rattle.std.specs.Prelude.{◌≡◌, ◌≢◌, ◌++◌, ◌∷◌, ◌≤◌, [], ℕ, List, Option, false, codes, flat_map, length, map, IfErr, IfOk, OnOk};
 ghost use Rattle.command_line.specs.declared.command.Pass.{Pass as AnyPass};
 ghost use Rattle.command_line.specs.declared.command.Pass.TheVariants as passes;
+ghost use Rattle.back_end.specs.Coded.{AreFrames};
 ghost use Rattle.front_end.specs.Front.{AreNamesOf, AreRows, AreTokens, IsAnalysis, IsChecked};
 ghost use Rattle.grammar_file.specs.SyntaxPlace.{ended};
 ghost use Rattle.limits.specs.Limits.{most_rows};
 ghost use Rattle.llp_tables.specs.Tables.{AreTables, Entry};
 ghost use Rattle.par_lexer.specs.Table.{lexer};
 ghost use Rattle.pass_page.specs.Page.{closing, opening, source_box, table_box, tree_box};
-ghost use Rattle.pass_tables.specs.Tables.{pair_columns, parse_columns, state_columns};
+ghost use Rattle.pass_tables.specs.Tables.{code_columns, frame_columns, function_names, pair_columns, parse_columns, place_columns, state_columns};
+ghost use Rattle.rv_code.specs.Code.{most_long};
 ghost use Rattle.source_meaning.specs.Ast.{Program};
 ghost use Rattle.source_meaning.specs.Grammar.{Tree, Prog, ast, grammar, leaves, left_parse, number_of, terminal_number};
 ghost use Rattle.source_meaning.specs.Lexemes.{tokens as tokens_in};
 ghost use Rattle.text_columns.specs.Columns.{Column as AnyColumn, table_text};
 ghost use Rattle.verdict.specs.Verdict.{Accepted, IsVerdict};
-ghost use Rattle.pass_views.specs.Shown.{AreAllArrays, Arrays, IsLexed, IsPage, IsParsed, IsScoped, IsShaped, Shows, all_tables, apart, headed, named_arrays};
+ghost use Rattle.pass_views.specs.Shown.{AllArrays, AreAllArrays, Arrays, IsLexed, IsPage, IsParsed, IsScoped, IsShaped, Shows, all_tables, apart, headed, named_arrays};
 ghost use Rattle.pass_views.specs.Stopped.{AreNone, IsUnpaged, IsUnshown, Stops, arrays_of};
 
 use ast_rows::{Names, Rows, Tokens};
@@ -36,7 +38,7 @@ use pass_tables::{
 };
 use row_laws::rows_are_few;
 use row_rules::shaped_is_named;
-use rv_regs::depths;
+use rv_regs::{Frames, depths};
 use source_meaning::Terminal;
 use std::alloc::{AllocError, Global};
 use text_columns::{Column, push_table};
@@ -203,19 +205,28 @@ fn type_arrays(crew: &impl Passes, source: &[u8]) -> Result<Vec<Column>, Refusal
     Ok(type_columns(crew.alloc(), &analysis.rows, &analysis.types)?)
 }
 
+// The frames of the functions of a source without a fault, or the limit that one of them passes.
+fn frames_of(crew: &impl Passes, source: &[u8], analysis: &Analysis) -> Result<Frames, Refusal>
+    requires analyzed { (t : Tree Prog) × IsAnalysis source.now t analysis.now }
+    ensures ok { IfOk result (λ f. (t : Tree Prog) × IsAnalysis source.now t analysis.now × AreFrames (ast t) f) }
+    ensures stopped { IfErr result (AreNone source.now passes.Frames) }
+{
+    one_tree_of_text();
+    rows_are_few();
+    let depths = depths(crew, &analysis.rows)?;
+    frames_or_limit(crew, source, &analysis.tokens, &analysis.rows, &depths)
+}
+
 // The arrays of the frames.
 #[inline(never)]
 fn frame_arrays(crew: &impl Passes, source: &[u8]) -> Result<Vec<Column>, Refusal>
     ensures shown { IfOk result (λ columns. Arrays source.now passes.Frames columns.items) }
     ensures stopped { IfErr result (AreNone source.now passes.Frames) }
 {
-    one_tree_of_text();
     one_verdict();
     limits_come_last();
-    rows_are_few();
     let analysis = front(crew, source)?;
-    let depths = depths(crew, &analysis.rows)?;
-    let frames = frames_or_limit(crew, source, &analysis.tokens, &analysis.rows, &depths)?;
+    let frames = frames_of(crew, source, &analysis)?;
     Ok(frame_columns(
         crew.alloc(),
         source,
@@ -233,7 +244,33 @@ struct CodeArrays {
     code: Vec<Column>,
 }
 
-// These arrays.
+// These arrays, of a program and its code.
+fn columns_of_code(
+    alloc: Global,
+    source: &[u8],
+    tokens: &Tokens,
+    program: &Framed,
+    laid: &LaidOut,
+) -> Result<CodeArrays, AllocError>
+    requires few { length laid.now.words.items ≤ most_long }
+    ensures frames { IfOk result (λ arrays. arrays.frames.items ≡ frame_columns (function_names source.now tokens.now program.now.rows) program.now.frames) }
+    ensures places { IfOk result (λ arrays. arrays.places.items ≡ place_columns program.now.rows program.now.depths.items laid.now.sizes.items laid.now.places.items) }
+    ensures code { IfOk result (λ arrays. arrays.code.items ≡ code_columns laid.now.words.items) }
+{
+    Ok(CodeArrays {
+        frames: frame_columns(alloc, source, tokens, &program.rows, &program.frames)?,
+        places: place_columns(
+            alloc,
+            &program.rows,
+            &program.depths,
+            &laid.sizes,
+            &laid.places,
+        )?,
+        code: code_columns(alloc, &laid.words)?,
+    })
+}
+
+// These arrays, of a source without a fault.
 #[inline(never)]
 fn arrays_of_code(
     crew: &impl Passes,
@@ -257,17 +294,8 @@ fn arrays_of_code(
         depths,
         frames,
     };
-    let LaidOut {
-        sizes,
-        places,
-        words,
-    } = laid_out(crew, source, &program)?;
-    let alloc = crew.alloc();
-    Ok(CodeArrays {
-        frames: frame_columns(alloc, source, &tokens, &program.rows, &program.frames)?,
-        places: place_columns(alloc, &program.rows, &program.depths, &sizes, &places)?,
-        code: code_columns(alloc, &words)?,
-    })
+    let laid = laid_out(crew, source, &program)?;
+    Ok(columns_of_code(crew.alloc(), source, &tokens, &program, &laid)?)
 }
 
 // The arrays of the passes that make the code, of a source that has some.
@@ -405,6 +433,33 @@ fn arrays_of_meaning(
     Ok((analysis, arrays))
 }
 
+// The arrays whose tables the page has, by those up to the rows.
+#[inline(never)]
+fn page_arrays(
+    crew: &impl Passes,
+    source: &[u8],
+    tokens: Tokens,
+    rows: Rows,
+    syntax: SyntaxArrays,
+) -> Result<PageArrays, Refusal>
+    requires lexed { AreTokens source.now tokens }
+    requires shaped { (t : Tree Prog) × AreRows source.now rows t }
+    requires tokens { Arrays source.now passes.Tokens syntax.tokens.items }
+    requires parse { Arrays source.now passes.Parse syntax.parse.items }
+    requires rows { Arrays source.now passes.Rows syntax.rows.items }
+    ensures ok { IfOk result (λ arrays. (states pairs : List AnyColumn) → Arrays source.now passes.States states → Arrays source.now passes.Pairs pairs
+        → AreAllArrays source.now (arrays_of states pairs arrays)) }
+    ensures stopped { IfErr result (Stops ((all : AllArrays) → ¬ AreAllArrays source.now all) source.now) }
+{
+    let (analysis, meaning) = arrays_of_meaning(crew, source, tokens, rows)?;
+    let code = arrays_of_code(crew, source, analysis)?;
+    Ok(PageArrays {
+        syntax,
+        meaning,
+        code,
+    })
+}
+
 // ---- the tables
 
 // Writes a table behind a line with its name.
@@ -450,13 +505,7 @@ fn all(crew: &impl Passes, source: &[u8]) -> Result<Vec<u8>, Refusal>
 {
     let (tokens, rows, syntax) = arrays_to_rows(crew, source)?;
     let inner = inner_arrays(crew.alloc(), source, &tokens)?;
-    let (analysis, meaning) = arrays_of_meaning(crew, source, tokens, rows)?;
-    let code = arrays_of_code(crew, source, analysis)?;
-    let arrays = PageArrays {
-        syntax,
-        meaning,
-        code,
-    };
+    let arrays = page_arrays(crew, source, tokens, rows, syntax)?;
     Ok(joined(crew.alloc(), &inner, &arrays)?)
 }
 
@@ -531,13 +580,7 @@ pub fn page(crew: &impl Passes, source: &[u8]) -> Result<Vec<u8>, Refusal>
     rows_are_few();
     let (tokens, rows, syntax) = arrays_to_rows(crew, source)?;
     let mut page = drawn(crew.alloc(), source, &tokens, &rows)?;
-    let (analysis, meaning) = arrays_of_meaning(crew, source, tokens, rows)?;
-    let code = arrays_of_code(crew, source, analysis)?;
-    let arrays = PageArrays {
-        syntax,
-        meaning,
-        code,
-    };
+    let arrays = page_arrays(crew, source, tokens, rows, syntax)?;
     push_tables(&mut page, &arrays)?;
     Ok(page)
 }

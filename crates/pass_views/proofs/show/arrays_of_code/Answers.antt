@@ -3,7 +3,6 @@ use Rattle.source_meaning.specs.Ast.{Program}
 use Rattle.source_meaning.specs.Grammar.{ast}
 use Rattle.front_end.specs.Laws.Counting.{tree_few}
 use Rattle.verdict.specs.Verdict.{Accepted, IsVerdict}
-use Rattle.back_end.specs.Coded.{AreFrames, AreRowsOf}
 use Rattle.pass_views.specs.Stopped.{Stops}
 use Rattle.back_end.specs.Laws.Analyzed.{of_analysis}
 use Rattle.back_end.specs.Laws.HandedOn.{handed_on}
@@ -51,20 +50,14 @@ laid_out-requires-clause-framed g c κs within =
       },
     )
 
-pub code_columns-requires : goal.code_columns-requires
-code_columns-requires g c =
-    let few = c.in_ok-sizes.ensures.few in
-    let same = ap length c.deref-5.ensures.value in
-    record { few = omega arith }
-
 pub returns-clause-frames : goal.returns-clause-frames
 returns-clause-frames g c =
     let text = c.args.source.now in
     let t = c.requires.analyzed in
     let rows = c.parts-tokens.ensures.rows ∙ t.1.rows_are in
     let deep = c.in_ok-depths.ensures (ast t.0) t.1.checked.shaped rows in
-    are_frames text c.parts-tokens.result.0 c.parts-tokens.result.1 c.in_ok-frames.frames c.in_ok-frame_columns.field-0.items t.0 t.1.checked (c.parts-tokens.ensures.tokens ∙ t.1.tokens_are) rows
-    (c.in_ok-frames.ensures.ok false t.0 t.1.checked rows (c.deref.ensures.value ∙ deep)) c.in_ok-frame_columns.ensures
+    are_frames text c.parts-tokens.result.0 c.parts-tokens.result.1 c.in_ok-frames.frames c.in_ok-columns_of_code.field-0.frames.items t.0 t.1.checked (c.parts-tokens.ensures.tokens ∙ t.1.tokens_are) rows
+    (c.in_ok-frames.ensures.ok false t.0 t.1.checked rows (c.deref.ensures.value ∙ deep)) c.in_ok-columns_of_code.ensures.frames
 
 pub returns-clause-places : goal.returns-clause-places
 returns-clause-places g c =
@@ -72,15 +65,15 @@ returns-clause-places g c =
     let t = c.requires.analyzed in
     let rows = c.parts-tokens.ensures.rows ∙ t.1.rows_are in
     let deep = c.in_ok-depths.ensures (ast t.0) t.1.checked.shaped rows in
-    let is = c.in_ok-sizes.ensures.ok t.0
+    let is = c.in_ok-laid.ensures.ok t.0
     (record {
       checked = t.1.checked;
       are = of_analysis text t.0 c.args.analysis c.parts-tokens.result.1 c.parts-tokens.result.2 t.1 c.parts-tokens.ensures.rows c.parts-tokens.ensures.names;
       depths_are = deep;
       frames = c.in_ok-frames.ensures.ok false t.0 t.1.checked rows (c.deref.ensures.value ∙ deep);
     }) in
-    are_places text c.parts-tokens.result.1 _ _ _ c.in_ok-place_columns.field-0.items (ast t.0) is.0 rows (c.deref-2.ensures.value ∙ deep) (c.deref-3.ensures.value ∙ is.1.sizes_are) (c.deref-4.ensures.value ∙ is.1.places_are)
-    c.in_ok-place_columns.ensures
+    are_places text c.parts-tokens.result.1 _ _ _ c.in_ok-columns_of_code.field-0.places.items (ast t.0) is.0 rows deep is.1.sizes_are is.1.places_are
+    c.in_ok-columns_of_code.ensures.places
 
 pub returns-clause-code : goal.returns-clause-code
 returns-clause-code g c =
@@ -88,14 +81,14 @@ returns-clause-code g c =
     let t = c.requires.analyzed in
     let rows = c.parts-tokens.ensures.rows ∙ t.1.rows_are in
     let deep = c.in_ok-depths.ensures (ast t.0) t.1.checked.shaped rows in
-    let is = c.in_ok-sizes.ensures.ok t.0
+    let is = c.in_ok-laid.ensures.ok t.0
     (record {
       checked = t.1.checked;
       are = of_analysis text t.0 c.args.analysis c.parts-tokens.result.1 c.parts-tokens.result.2 t.1 c.parts-tokens.ensures.rows c.parts-tokens.ensures.names;
       depths_are = deep;
       frames = c.in_ok-frames.ensures.ok false t.0 t.1.checked rows (c.deref.ensures.value ∙ deep);
     }) in
-    are_words text _ c.in_ok-code_columns.field-0.items (ast t.0) is.0 (c.deref-5.ensures.value ∙ is.1.words_are) c.in_ok-code_columns.ensures
+    are_words text _ c.in_ok-columns_of_code.field-0.code.items (ast t.0) is.0 is.1.words_are c.in_ok-columns_of_code.ensures.code
 
 pub returns-in_err-frames-clause-stopped : goal.returns-in_err-frames-clause-stopped
 returns-in_err-frames-clause-stopped g c =
@@ -106,15 +99,15 @@ returns-in_err-frames-clause-stopped g c =
     handed_on (Stops ((p : Program) → ¬ IsVerdict false text (Accepted p)) text) c.from_residual-in_err-frames.result c.in_err-frames.field-0.0 c.from_residual-in_err-frames.ensures.1
     (unaccepted text c.in_err-frames.field-0.0 (c.one_verdict.ensures false text) (c.in_err-frames.ensures.refused false t.0 t.1.checked rows (c.deref.ensures.value ∙ deep)))
 
-pub returns-in_err-sizes-clause-stopped : goal.returns-in_err-sizes-clause-stopped
-returns-in_err-sizes-clause-stopped g c =
+pub returns-in_err-laid-clause-stopped : goal.returns-in_err-laid-clause-stopped
+returns-in_err-laid-clause-stopped g c =
     let text = c.args.source.now in
     let t = c.requires.analyzed in
     let rows = c.parts-tokens.ensures.rows ∙ t.1.rows_are in
     let deep = c.in_ok-depths.ensures (ast t.0) t.1.checked.shaped rows in
-    handed_on (Stops ((p : Program) → ¬ IsVerdict false text (Accepted p)) text) c.from_residual-in_err-sizes.result c.in_err-sizes.field-0.0 c.from_residual-in_err-sizes.ensures.1
-    (unaccepted text c.in_err-sizes.field-0.0 (c.one_verdict.ensures false text)
-    (c.in_err-sizes.ensures.refused t.0
+    handed_on (Stops ((p : Program) → ¬ IsVerdict false text (Accepted p)) text) c.from_residual-in_err-laid.result c.in_err-laid.field-0.0 c.from_residual-in_err-laid.ensures.1
+    (unaccepted text c.in_err-laid.field-0.0 (c.one_verdict.ensures false text)
+    (c.in_err-laid.ensures.refused t.0
     (record {
       checked = t.1.checked;
       are = of_analysis text t.0 c.args.analysis c.parts-tokens.result.1 c.parts-tokens.result.2 t.1 c.parts-tokens.ensures.rows c.parts-tokens.ensures.names;
