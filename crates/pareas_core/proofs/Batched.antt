@@ -86,6 +86,9 @@ batch_due bytes _ (bad_batch {fault = fault} is) = inr (fault, is, refl)
 no_batch_run : (wanted : Bool) (bytes source : List ℕ) (steps : ℕ) → Runs Batch bytes wanted source steps → ⊥
 no_batch_run wanted bytes source steps r = elim r [ ]
 
+no_batch_build : (wanted : Bool) → Batch ≡ Build wanted → ⊥
+no_batch_build wanted is = cc
+
 -- what is due for a batch, and nothing else is
 module _ (bytes : List ℕ) (d : Due) (one : OneVerdict) (one_list : (s t : List (List ℕ)) → Records bytes s → Records bytes t → s ≡ t)
     (one_fault : (f g : BatchFault) → IsBatchFault bytes f → IsBatchFault bytes g → f ≡ g) (apart : (f : BatchFault) (s : List (List ℕ)) → IsBatchFault bytes f → IsBatch bytes s → ⊥) where
@@ -99,7 +102,7 @@ module _ (bytes : List ℕ) (d : Due) (one : OneVerdict) (one_list : (s t : List
           ∙ sym same
       | inr (fault, bad, e_is) ↦ absurd (apart fault sources bad is)
     ];
-    built = λ wanted build is_done. let e : Batch ≡ Build wanted = build in cc;
+    built = λ wanted build is_done. absurd (no_batch_build wanted build);
     ran = λ wanted source n runs h. absurd (no_batch_run wanted bytes source n runs);
   }
 
@@ -110,6 +113,6 @@ module _ (bytes : List ℕ) (d : Due) (one : OneVerdict) (one_list : (s t : List
       | inl (others, found, also, those, e_is) ↦ absurd (apart fault others bad also)
       | inr (other, also, e_is) ↦ e_is ∙ ap (λ f. noted BadBatch (fault_text f)) (one_fault other fault also bad) ∙ sym same
     ];
-    built = λ wanted build is_done. let e : Batch ≡ Build wanted = build in cc;
+    built = λ wanted build is_done. absurd (no_batch_build wanted build);
     ran = λ wanted source n runs h. absurd (no_batch_run wanted bytes source n runs);
   }
