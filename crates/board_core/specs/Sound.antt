@@ -28,7 +28,7 @@ module _ {I : Type 0} where
   abbrev pub status_of : List (Status I) → ℕ → Status I
   status_of statuses j = slice_index_or statuses j X
 
-  -- the claims of a seat, where there are so many chunks and this is the counter
+  -- the claims of a seat, where there are this many chunks and this is the counter
   pub record IsHand (chunks counter : ℕ) (s : Seat I) : Type 0 where
     pub share_is : (s.share ≡ 0) ⊎ (s.share ≡ s.weight)
     pub spent : s.share ≡ 0 → 0 < s.weight → chunks ≤ counter

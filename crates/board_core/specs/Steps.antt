@@ -10,7 +10,7 @@ shares (suc m) zero = 0
 shares (suc m) (suc n) = suc m + suc n
 
 module _ {I : Type 0} where
-  -- the number n is drawn, where there are so many chunks
+  -- the number n is drawn, where there are this many chunks
   abbrev pub claiming : ℕ → ℕ → Seat I → Seat I
   claiming chunks n seat = if nat_lt n chunks then record seat { claimed = seat.claimed ++ n ∷ [] } else record seat { share = 0 }
 

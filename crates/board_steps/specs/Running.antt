@@ -26,7 +26,7 @@ module _ {V : Type 0} where
   abbrev pub seated : State (Unit {0}) V → List V → State (Unit {0}) V
   seated s views = record { words = s.words; homes = s.homes; views = views }
 
--- `claim` by the seat a, where there are so many chunks: the counter is raised by one, and the number found is the answer where it is a chunk's
+-- `claim` by the seat a, where there are this many chunks: the counter is raised by one, and the number found is the answer where it is a chunk's
 pub record RunsClaim (chunks a : ℕ) (s : ClaimTable) (answer : Option ℕ) (t : ClaimTable) : Type 0 where
   pub old : ClaimView
   pub new : ClaimView
@@ -73,7 +73,7 @@ Holds None v = v.done ≡ v.claimed
 Holds (Some n) v = (v.claimed ≡ v.done ++ n ∷ []) × (times n v.done ≡ 0)
 
 module _ {T : Type 0} where
-  -- `deal` by the seat a with this in its hand, where there are so many items: what is in the hand goes back, the counter is raised by one, and
+  -- `deal` by the seat a with this in its hand, where there are this many items: what is in the hand goes back, the counter is raised by one, and
   -- the number found is the answer where it is an item's
   pub record RunsDeal (items a : ℕ) (hand : Option ℕ) (s : DealTable T) (answer : Option ℕ) (t : DealTable T) : Type 0 where
     pub old : ClaimView

@@ -12,7 +12,7 @@ use Rattle.board_core.specs.Schedules.{start, is_lawful, play, after}
 use Rattle.board_steps.specs.Parts.{ClaimTable, DealTable, StatusTable, at_least_one, claim_part, IsDealPart, IsStatusPart}
 use Rattle.board_steps.specs.Running.{RunsClaim, RunsDone, RunsClaimSplit, RunsClaimJoin, RunsDeal, RunsDealSplit, RunsDealJoin, RunsShow, RunsSeal, RunsLook, RunsStatusSplit, RunsStatusJoin}
 
--- what a claim board of so many chunks may have become, whose first seat stands for so many
+-- what a claim board of this many chunks may have become, whose first seat stands for this many
 pub data ClaimRun (chunks seats : ℕ) : ClaimTable → Type 0 where
   claim_opened : ClaimRun chunks seats (opening (0 ∷ 0 ∷ []) [] (fresh seats))
   claim_drawn : (s t : ClaimTable) (a : ℕ) (answer : Option ℕ) → ClaimRun chunks seats s → RunsClaim chunks a s answer t → ClaimRun chunks seats t
@@ -20,7 +20,7 @@ pub data ClaimRun (chunks seats : ℕ) : ClaimTable → Type 0 where
   claim_split : (s t : ClaimTable) (a n number : ℕ) → ClaimRun chunks seats s → RunsClaimSplit a n s number t → ClaimRun chunks seats t
   claim_joined : (s t : ClaimTable) (a b : ℕ) → ClaimRun chunks seats s → RunsClaimJoin a b s t → ClaimRun chunks seats t
 
--- what a board that deals these items may have become, whose first seat stands for so many
+-- what a board that deals these items may have become, whose first seat stands for this many
 pub data DealRun {T : Type 0} (items : List T) (seats : ℕ) : DealTable T → Type 0 where
   deal_opened : DealRun items seats (opening (0 ∷ []) items (fresh seats))
   deal_drawn : (s t : DealTable T) (a : ℕ) (hand answer : Option ℕ) → DealRun items seats s → RunsDeal (length items) a hand s answer t → DealRun items seats t

@@ -5,6 +5,6 @@ use Rattle.std.specs.Prelude.{ℕ, ◌+◌, ◌-◌, ◌*◌, ◌/◌, List, tak
 abbrev pub chunk_of : {T : Type 0} → ℕ → List T → ℕ → List T
 chunk_of size items c = take size (drop (c * size) items)
 
--- how many chunks so many items make
+-- how many chunks this many items make
 abbrev pub chunk_count : ℕ → ℕ → ℕ
 chunk_count size len = (len + (size - 1)) / size

@@ -14,7 +14,7 @@ abbrev pub as_list : Option ℕ → List ℕ
 as_list None = []
 as_list (Some c) = c ∷ []
 
--- the seat of so many workers who begin with that chunk
+-- the seat of this many workers who begin with that chunk
 abbrev pub beginning : Option ℕ → ℕ → ClaimView
 beginning begun workers = claims (as_list begun) [] workers workers
 
@@ -22,7 +22,7 @@ beginning begun workers = claims (as_list begun) [] workers workers
 abbrev pub AreMade : {B E : Type 0} → ℕ → (ℕ → Result B E → Type 0) → List ℕ → Result (Vec (ℕ × B)) E → Type 0
 AreMade chunks post claimed made = IfOk made (λ v. (claimed ≡ map (λ p. p.0) v.items) × All (Gave chunks post) v.items)
 
--- the seat is spent, has all the weight of so many workers, and has claimed what was made, of which the chunk that they began with is one
+-- the seat is spent, has all the weight of this many workers, and has claimed what was made, of which the chunk that they began with is one
 pub record Works {B : Type 0} (chunks : ℕ) (post : ℕ → Result B AllocError → Type 0) (board : TableId) (begun : Option ℕ) (workers : ℕ) (seat : Held)
     (made : Result (Vec (ℕ × B)) AllocError) : Type 0 where
   pub board_is : seat.board ≡ board

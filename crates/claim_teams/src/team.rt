@@ -182,7 +182,7 @@ fn count_done(claims: &ClaimBoard, mine: &mut Seat, first: u64, count: u64)
     }
 }
 
-/// What is made of each chunk of a board, beside the chunk's number, by a team of so many workers, for every crew. The board and its first seat are
+/// What is made of each chunk of a board, beside the chunk's number, by a team of this many workers, for every crew. The board and its first seat are
 /// lent; in the end the seat stands for all others again. Where memory runs out the rest is drawn all the same, and nothing is made of it. The first
 /// claim is made before the seat is split, which tells whether there is any chunk; the first worker begins with that one.
 pub fn make_each<C: Crew, B: Drop + Send, F: Fn(u64) -> Result<B, AllocError> + Sync>(

@@ -25,13 +25,13 @@ function_line i p q r =
 abbrev pub main_line : ℕ → List ℕ
 main_line j = codes "fn main(): int { return f" ++ decimal j ++ codes "[1]; }" ++ 10 ∷ []
 
--- so many functions from number i on, each with three draws from this state on, and then `main`
+-- this many functions from number i on, each with three draws from this state on, and then `main`
 abbrev pub function_lines : ℕ → ℕ → ℕ → List ℕ
 function_lines zero i x = main_line (i - 1)
 function_lines (suc n) i x =
     let x1 = next_state x in let x2 = next_state x1 in let x3 = next_state x2 in
     function_line i (drawn x1) (drawn x2) (drawn x3) ++ function_lines n (i + 1) x3
 
--- the text of a seed, with so many functions beside `main`
+-- the text of a seed, with this many functions beside `main`
 abbrev pub drill_text : ℕ → ℕ → List ℕ
 drill_text seed functions = function_lines functions 0 seed

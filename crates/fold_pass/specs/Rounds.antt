@@ -14,7 +14,7 @@ module _ (c : Columns) where
   abbrev pub constant_at : List (Option ℕ) → ℕ → Option ℕ
   constant_at values k = constant_by (kind_in c k) (value_in values (left_of c k)) (value_in values (right_of c k))
 
-  -- what is known of rows after so many rounds, the first of which finds the literals
+  -- what is known of rows after this many rounds, the first of which finds the literals
   abbrev pub known_after : ℕ → List (Option ℕ)
   known_after zero = map (λ k. None) (range_with_len 0 (many c))
   known_after (suc n) = map (constant_at (known_after n)) (range_with_len 0 (many c))
@@ -23,7 +23,7 @@ module _ (c : Columns) where
   abbrev pub HasChild : List ℕ → ℕ → Type 0
   HasChild fresh k = (i : ℕ) × (i < length fresh) × (number_in c.parents (number_in fresh i) ≡ k)
 
-  -- What is known after so many rounds, where fresh are the rows that were found in the last one: what is known of a row is what its children
+  -- What is known after this many rounds, where fresh are the rows that were found in the last one: what is known of a row is what its children
   -- make of it, and a row of which nothing is known, though its children make a constant of it, is the parent of a fresh one.
   pub record AreRounds (rounds : ℕ) (values : List (Option ℕ)) (fresh : List ℕ) : Type 0 where
     pub as_many : length values ≡ many c
@@ -49,6 +49,6 @@ module _ (c : Columns) where
     pub put : (j x : ℕ) → j < n → value_in told j ≡ Some x → is_some (value_in new (number_in c.parents (number_in fresh j))) ≡ true
     pub fewer : unknown new + length next ≡ unknown old
 
-  -- so many rounds are no more than the highest rows that may be constants are high
+  -- this many rounds are no more than the highest rows that may be constants are high
   abbrev pub IsBounded : ℕ → Type 0
   IsBounded rounds = (n : ℕ) (height : ℕ → ℕ) → AreHeights c n height → rounds ≤ n

@@ -32,7 +32,7 @@ use source_meaning::Kind;
 use std::alloc::AllocError;
 use std::sync::ledger::Ledger;
 
-// So many stretches of the rows that stay for each worker, since some take longer than others.
+// This many stretches of the rows that stay for each worker, since some take longer than others.
 const SHARES: u32 = 2;
 
 // The columns of the rows that stay: kinds, own tokens and the first rows of subtrees.

@@ -1,4 +1,4 @@
--- The levels of expressions, and what the columns of rows say of them: so many rounds find all constants.
+-- The levels of expressions, and what the columns of rows say of them: this many rounds find all constants.
 use Rattle.std.specs.Prelude.{◌≡◌, ℕ, suc, ◌<◌, ◌≤◌, max, Bool, true, false, [], ◌∷◌}
 use Rattle.source_meaning.specs.declared.kinds.Kind.{Kind}
 use Rattle.source_meaning.specs.declared.kinds.Kind.TheVariants.{And, Or, Binary, Unary, Num, Truth}

@@ -6,7 +6,7 @@ use Rattle.source_meaning.specs.Rows.{Row, post}
 use Rattle.folding.specs.Folding.{folded_program}
 use Rattle.folded_rows.specs.Columns.{Columns, columns_of, constant_by, value_in, many, kind_in, left_of, right_of, new_rows}
 
--- the constants that are found in so many rounds
+-- the constants that are found in this many rounds
 abbrev pub found_in : Columns → ℕ → List (Option ℕ)
 found_in c zero = map (λ k. None) (range_with_len 0 (many c))
 found_in c (suc n) = let before = found_in c n in map (λ k. constant_by (kind_in c k) (value_in before (left_of c k)) (value_in before (right_of c k))) (range_with_len 0 (many c))

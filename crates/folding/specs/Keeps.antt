@@ -4,7 +4,7 @@ use Rattle.std.specs.Prelude.{◌≡◌, ℕ, List, ◌++◌}
 use Rattle.source_meaning.specs.Ast.{Program}
 use Rattle.source_meaning.specs.Meaning.{Outcome, Ended, Stopped, Deep, More, End, meaning}
 
--- on a stack of so many bytes, for the bound n, the program comes to this after it printed these numbers
+-- on a stack of this many bytes, for the bound n, the program comes to this after it printed these numbers
 abbrev pub Means : Program → (stack n : ℕ) → Outcome → List ℕ → Type 0
 Means p stack n o out = meaning p stack n ≡ record { outcome = o; printed = out }
 

@@ -13,7 +13,7 @@ snoc list xs r = map-append list xs (r ∷ [])
 pub snoc_two : (list : Column) (xs ys : List KinParts) (a b : KinParts) → ys ≡ xs ++ a ∷ [] → map list (ys ++ b ∷ []) ≡ (map list xs ++ list a ∷ []) ++ list b ∷ []
 snoc_two list xs ys a b is = snoc list ys b ∙ ap (λ l. l ++ list b ∷ []) (ap (map list) is ∙ snoc list xs a)
 
--- so many rows of the rest are cut off: a is the first part of it, and b what is left
+-- this many rows of the rest are cut off: a is the first part of it, and b what is left
 module _ (xs ys : List KinParts) (r a b : KinParts) (is : ys ≡ xs ++ a ∷ []) where
   pub place_next : (whole : KinParts) (list : Column) → Chain 4 (part_start (list whole)) (map list (xs ++ r ∷ [])) → (part_start (list a) ≡ part_start (list r)) × Follows 4 (list a) (list b)
       → Chain 4 (part_start (list whole)) (map list (ys ++ b ∷ []))
@@ -29,7 +29,7 @@ module _ (xs ys : List KinParts) (r a b : KinParts) (is : ys ≡ xs ++ a ∷ [])
       ∙ ap (flat_map part_items) (sym (snoc list xs r))
       ∙ before
 
--- how many rows the rest has, where stretch k is next and has so many
+-- how many rows the rest has, where stretch k is next and has this many
 module _ (ends : List ℕ) (k at : ℕ) (many : at ≡ rows_in ends k) (less : k < length ends) (whole r : KinParts) where
   pub room_for : (list : Column) → AreCuts ends (length (part_items (list whole))) → start_of ends k + length (part_items (list r)) ≡ length (part_items (list whole)) → at ≤ length (part_items (list r))
   room_for list cuts left = let w = cuts.within k less in let o = cuts.order k less in omega arith

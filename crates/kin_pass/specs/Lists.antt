@@ -20,12 +20,12 @@ pub record EachList (P : Column → Type 0) : Type 0 where
   pub lows : P (λ p. p.lows)
   pub places : P (λ p. p.places)
 
--- a part of so many values of 32 bits, which lie in one list
+-- a part of this many values of 32 bits, which lie in one list
 pub record IsLent (n : ℕ) (part : Part ℕ) : Type 0 where
   pub wide : length (part_items part) ≡ n
   pub fits : Fits 4 n
 
--- the parts have so many rows
+-- the parts have this many rows
 abbrev pub AreWide : ℕ → KinParts → Type 0
 AreWide n parts = EachList (λ list. length (part_items (list parts)) ≡ n)
 
@@ -33,7 +33,7 @@ AreWide n parts = EachList (λ list. length (part_items (list parts)) ≡ n)
 abbrev pub AreTiesIn : List Ties → KinParts → Type 0
 AreTiesIn ties parts = AreTies ties (part_items parts.parents) (part_items parts.lows) (part_items parts.places)
 
--- The lists have so many rows
+-- The lists have this many rows
 pub record HasRows (n : ℕ) (kin : Kin) : Type 0 where
   pub parents : length kin.parents.items ≡ n
   pub lows : length kin.lows.items ≡ n

@@ -11,7 +11,7 @@ use par_passes::Passes;
 use row_kin::{Kin, Stretch, Stretches, kin_settled};
 use std::alloc::{AllocError, Global};
 
-// Lists of so many zeros.
+// Lists of this many zeros.
 fn blank_kin(alloc: Global, rows: usize) -> Result<Kin, AllocError>
     ensures { IfOk result (λ v. HasRows rows v) }
 {

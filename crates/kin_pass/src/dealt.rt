@@ -106,7 +106,7 @@ fn in_order<T: Drop, N: Goods<T>>(items: Returned<T, N>, room: Vec<T>) -> Vec<T>
     out
 }
 
-// The items, dealt to so many workers. Where there is no memory for the board, they come back as they were.
+// The items, dealt to this many workers. Where there is no memory for the board, they come back as they were.
 fn deal_items<C: Crew, T: Drop + Send, F: Fn(u64, &mut T) + Sync, N: Goods<T> + Send + Sync>(
     crew: &C,
     workers: u32,

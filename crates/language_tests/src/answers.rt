@@ -33,7 +33,7 @@ pub enum Question<'a> {
     Word(&'a [u8]),
 }
 
-/// What is told of the grammar, or that memory ran out, by so many workers who draw chunks of one pair.
+/// What is told of the grammar, or that memory ran out, by this many workers who draw chunks of one pair.
 pub fn told<R: Threads + Sync>(
     rt: &R,
     alloc: Global,

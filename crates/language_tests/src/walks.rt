@@ -201,7 +201,7 @@ fn known_outcomes(rt: HostRuntime) {
 /// How deep expressions are nested: an even number.
 const DEPTH: u32 = 100_000;
 
-/// The same node so many times, behind others.
+/// The same node this many times, behind others.
 fn repeat(nodes: &mut Vec<Node>, node: Node, count: u32) -> Option<()> {
     for _ in 0..count {
         nodes.push(node).ok()?;

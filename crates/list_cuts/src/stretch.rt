@@ -8,14 +8,14 @@ fn behind<T>(items: &[T], place: usize) -> &[T]
     &items[place.min(items.len())..]
 }
 
-// The first items, so many or all.
+// The first `count` items, or all if there are fewer.
 fn front<T>(items: &[T], count: usize) -> &[T]
     ensures { result.now ≡ take count items.now }
 {
     &items[..count.min(items.len())]
 }
 
-/// The items of a list from a place on, so many or as many as there are.
+/// `count` items of a list from a place on, or as many as there are.
 pub fn stretch_at<T>(items: &[T], place: usize, count: usize) -> &[T]
     ensures { result.now ≡ take count (drop place items.now) }
 {

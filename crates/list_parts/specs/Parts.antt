@@ -5,7 +5,7 @@ use Rattle.core.specs.Mem.Slots.{slots_items, slots_ptr, slots_len}
 use Rattle.core.specs.declared.slots.Slots.{Slots}
 use Rattle.list_parts.specs.declared.part.Part.{Part}
 
--- so many values of that size can lie in one list
+-- this many values of that size can lie in one list
 pub record Fits (size n : ℕ) : Type 0 where
   pub count : n < 2 ^ 64
   pub bytes : n * size < 2 ^ 63

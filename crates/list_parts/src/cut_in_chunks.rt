@@ -9,7 +9,7 @@ ghost use Rattle.list_parts.specs.declared.part.Part.{Part as Piece};
 use crate::part::Part;
 
 impl<T> Part<T> {
-    /// So many chunks of that size, the last of which may be shorter. They are put into a list that has room for them.
+    /// This many chunks of that size, the last of which may be shorter. They are put into a list that has room for them.
     pub fn cut_all(self, size: usize, count: usize, room: Vec<Part<T>>) -> Vec<Part<T>>
         requires room { (room.items ≡ []) × (count ≤ vec_capacity room) }
         requires count { (1 ≤ count) × ((count - 1) * size ≤ length (part_items self)) × (length (part_items self) ≤ count * size) }

@@ -20,7 +20,7 @@ abbrev pub end_rows : Certificate → ℕ → List Row → List Row
 end_rows c a [] = []
 end_rows c a (row ∷ rows) = kept (follow_of c a) row ∷ end_rows c (a + 1) rows
 
--- behind so many terminals from a on
+-- behind this many terminals from a on
 abbrev pub terminal_rows : Certificate → Grammar → ℕ → ℕ → List Row
 terminal_rows c g a zero = []
 terminal_rows c g a (suc n) = after_all c 0 a (right_sides g) ∷ terminal_rows c g (a + 1) n

@@ -15,7 +15,7 @@ saturated n = min n (2 ^ 64 - 1)
 
 -- ---- how many derive nothing
 
--- a derivation of nothing from the form has so many productions
+-- a derivation of nothing from the form has this many productions
 abbrev pub IsEmptyLength : Grammar → List Symbol → ℕ → Type 0
 IsEmptyLength g form n = (ps : List ℕ) × Derives g form ps [] × (n ≡ saturated (length ps))
 

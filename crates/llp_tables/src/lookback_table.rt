@@ -39,7 +39,7 @@ fn stack_at(members: &[Option<Stack>], place: usize) -> Option<&[Symbol]>
 }
 
 impl Lookbacks {
-    /// The sets with these members, a row for each of so many terminals.
+    /// The sets with these members, a row for each of this many terminals.
     pub(crate) fn new(width: u16, members: Vec<Option<Stack>>) -> Lookbacks
         ensures { result ≡ record { width = width; members = members.items } }
     {

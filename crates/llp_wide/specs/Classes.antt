@@ -21,7 +21,7 @@ pub record AreClasses (terminals nonterminals : ℕ) (classes : List Members) : 
   pub count : length classes ≡ terminals
   pub cells : (z : ℕ) (members : Members) → slice_get classes z ≡ Some members → IsOpen terminals nonterminals members ⊎ IsOpen 0 0 members
 
--- how many more strings the cells of a class may keep, or so many where it isn't open yet
+-- how many more strings the cells of a class may keep, or this many where it isn't open yet
 abbrev pub room_for : ℕ → List Cell → List Cell → ℕ
 room_for full [] [] = full
 room_for full [] (c ∷ nonterminals) = room_at [] + room_at (c ∷ nonterminals)

@@ -5,7 +5,7 @@ use Rattle.llp_wide.specs.declared.places.Entrance.{Entrance}
 use Rattle.llp_wide.specs.Added.{IsIn, SomeBelow}
 use Rattle.llp_wide.specs.Places.{Spot}
 
--- where the mark of an entrance stands, among so many nonterminals
+-- where the mark of an entrance stands, among this many nonterminals
 abbrev pub place_of : ℕ → Entrance → ℕ
 place_of count e = e.before * count + e.nonterminal
 

@@ -31,7 +31,7 @@ abbrev pub item_at : {A : Type 0} → List A → Option ℕ → Option A
 item_at items None = None
 item_at items (Some n) = slice_get items n
 
--- the number, if there is one, is of one of so many items
+-- the number, if there is one, is of one of this many items
 abbrev pub IsNumberOf : ℕ → Option ℕ → Type 0
 IsNumberOf count None = Unit {0}
 IsNumberOf count (Some n) = n < count

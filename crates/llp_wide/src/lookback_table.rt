@@ -57,7 +57,7 @@ fn symbols_of(stack: &Closing) -> &[Symbol]
 }
 
 impl WideLookbacks {
-    /// The sets with these stacks and numbers, a layer for each of so many terminals.
+    /// The sets with these stacks and numbers, a layer for each of this many terminals.
     pub(crate) fn new(width: u16, triples: Triples) -> WideLookbacks
         ensures { result ≡ record { width = width; numbers = triples.numbers.items; stacks = triples.stacks.items } }
     {

@@ -105,7 +105,7 @@ fn keep(groups: &mut Vec<Group>, at: usize, places: Vec<Place>)
     groups[at] = Group { places };
 }
 
-// The number of an entrance, among so many nonterminals.
+// The number of an entrance, among this many nonterminals.
 fn place_of(entrance: Entrance, count: u16) -> usize
     ensures { result ≡ place_of count entrance }
 {

@@ -50,7 +50,7 @@ fn told(piece: &WidePiece) -> Entry<'_>
 }
 
 impl WideTables {
-    /// The tables with these pieces, a layer for each of so many terminals.
+    /// The tables with these pieces, a layer for each of this many terminals.
     pub(crate) fn new(width: u16, numbers: Vec<Option<u32>>, pieces: Vec<WidePiece>) -> WideTables
         requires { AllByRecursion (IsNumberOf (length pieces.items)) numbers.items }
         ensures { result ≡ record { width = width; entries = map (item_at pieces.items) numbers.items } }

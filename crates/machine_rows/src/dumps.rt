@@ -137,7 +137,7 @@ const MOST_WORDS: usize = 4_194_304;
 
 const MOST_BYTES: usize = 134_217_728;
 
-/// So many lines, each with one instruction.
+/// This many lines, each with one instruction.
 fn calls(alloc: Global, count: usize) -> Result<Vec<u8>, AllocError> {
     let mut text = Vec::new(alloc);
     for _ in 0..count {
@@ -156,7 +156,7 @@ fn listings_may_be_too_long(rt: HostRuntime) -> Result<(), Fail> {
     Ok(())
 }
 
-/// So many blanks.
+/// This many blanks.
 fn blanks(alloc: Global, count: usize) -> Result<Vec<u8>, AllocError> {
     vec![in alloc; b' '; count]
 }

@@ -74,7 +74,7 @@ const COURSES: &[(&[u32], u64, &[(i32, u64)], Outcome)] = &[
     (&COUNTING, 10, &[(0, 8), (1, 5), (2, 2)], Outcome::More),
 ];
 
-/// Whether a machine prints these numbers in so many steps, where a run that prints is followed by one of the steps that it left, and comes
+/// Whether a machine prints these numbers in this many steps, where a run that prints is followed by one of the steps that it left, and comes
 /// to this.
 fn prints(machine: &mut Machine, steps: u64, numbers: &[(i32, u64)], outcome: Outcome) -> bool {
     let mut due = steps;

@@ -29,7 +29,7 @@ pub fn change(file: &mut [u8], changes: &[(usize, u32)]) {
     }
 }
 
-/// What the machine of a file comes to in so many steps, behind so many that go on. No further step changes it.
+/// What the machine of a file comes to in this many steps, behind this many that go on. No further step changes it.
 pub fn comes_to(alloc: Global, file: &[u8], goes_on: u64, steps: u64) -> Option<Outcome> {
     let mut machine = Machine::load(alloc, file).ok()?;
     if machine.run(goes_on) != Outcome::More {

@@ -10,11 +10,11 @@ use source_meaning::Kind;
 pub(crate) struct Tally {
     /// A function ends in it, so that the count begins anew.
     pub(crate) anew: bool,
-    /// So many variables are declared in it, behind the last function that ends in it.
+    /// This many variables are declared in it, behind the last function that ends in it.
     pub(crate) variables: u32,
 }
 
-/// How many variables of its function are declared up to a row of this kind, where so many are before it.
+/// How many variables of its function are declared up to a row of this kind, where this many are before it.
 pub(crate) fn counted(kind: Kind, before: u32) -> u32
     requires { before < 4294967295 }
     ensures { result ≡ count_step kind before }

@@ -6,7 +6,7 @@ use Rattle.std.proofs.lemmas.Bool.{cases_lt}
 use Rattle.std.proofs.lemmas.List.{map-append, get_or_append_left, get_or_push}
 use Rattle.near_smaller.specs.Levels.{HalvedTo, AreRising, AreLevels, lists_of, level_at}
 
--- A level with more than one value, of which so many halvings leave one, has a next level that one halving less does
+-- A level with more than one value, of which this many halvings leave one, has a next level that one halving less does
 pub fewer : (k n : ℕ) → k ≤ 60 → 1 < n → n ≤ 2 ^ (60 - k) → (k < 60) × ((n + 1) / 2 ≤ 2 ^ (60 - (k + 1)))
 fewer k n some more fits = by (60 - k) (omega arith) fits
   where

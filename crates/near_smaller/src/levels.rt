@@ -5,7 +5,7 @@ ghost use Rattle.near_smaller.specs.Levels.{HalvedTo, AreLevels, lists_of, level
 use par_passes::{Lift, Passes};
 use std::alloc::AllocError;
 
-// So many levels are enough for a list in memory.
+// This many levels are enough for a list in memory.
 const MOST_LEVELS: usize = 61;
 
 // The lesser of two numbers.

@@ -21,7 +21,7 @@ fn expect_of<R: Threads + Abort + Sync>(
     expect(rt, alloc, call, Fault::Nowhere, answer)
 }
 
-/// The text, so many times.
+/// The text, this many times.
 fn repeated(alloc: Global, text: &[u8], count: usize) -> Result<Vec<u8>, AllocError> {
     let mut all = Vec::new(alloc);
     for _ in 0..count {
@@ -30,14 +30,14 @@ fn repeated(alloc: Global, text: &[u8], count: usize) -> Result<Vec<u8>, AllocEr
     Ok(all)
 }
 
-/// A production of one nonterminal, with so many times the terminal.
+/// A production of one nonterminal, with the terminal this many times.
 fn of_one_terminal(alloc: Global, count: usize) -> Result<Vec<u8>, AllocError> {
     let mut file = b"S ->".to_vec(alloc)?;
     file.extend_from_slice(&repeated(alloc, b" a", count)?)?;
     Ok(file)
 }
 
-/// Productions of one nonterminal with so many terminals, all different, at most sixteen in each.
+/// Productions of one nonterminal with this many terminals, all different, at most sixteen in each.
 fn of_terminals(alloc: Global, count: usize) -> Result<Vec<u8>, AllocError> {
     let mut file = Vec::new(alloc);
     for number in 0..count {
@@ -49,7 +49,7 @@ fn of_terminals(alloc: Global, count: usize) -> Result<Vec<u8>, AllocError> {
     Ok(file)
 }
 
-/// What a file has, so many times.
+/// What a file has, this many times.
 #[derive(Clone, Copy)]
 enum Content {
     Spaces,
@@ -60,7 +60,7 @@ enum Content {
     Productions,
 }
 
-/// The file that has this so many times.
+/// The file that has this content `count` times.
 fn file_of(alloc: Global, what: Content, count: usize) -> Result<Vec<u8>, AllocError> {
     match what {
         Content::Spaces => repeated(alloc, b" ", count),

@@ -99,7 +99,7 @@ fn changed_headers(rt: HostRuntime) -> Result<(), Fail> {
     Ok(())
 }
 
-/// How the file is answered when it is cut to so many bytes.
+/// How the file is answered when it is cut to this many bytes.
 fn answer_of_cut(count: usize) -> Answer<'static> {
     if count < 52 {
         refused(Status::BadImage, b"image Short\n")

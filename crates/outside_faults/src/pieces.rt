@@ -73,7 +73,7 @@ struct Spaces<'a> {
     notes: &'a [u8],
 }
 
-/// Calls the program, and sees that it makes so many reads, each as it should be, and is answered so.
+/// Calls the program, and sees that it makes this many reads, each as it should be, and is answered so.
 fn expect_reads<R: Threads + Abort + Sync>(
     rt: &R,
     alloc: Global,
@@ -194,7 +194,7 @@ fn reads_up_to_one_byte_past_the_limit_of_images(rt: HostRuntime) -> Result<(), 
     Ok(())
 }
 
-/// An output of ten bytes a write, which is to get so many.
+/// An output of ten bytes a write, which is to get this many bytes.
 fn watched(alloc: Global, due: usize) -> Result<WatchedOut<MemoryOut>, AllocError> {
     Ok(WatchedOut {
         inner: MemoryOut::new(alloc, due, 10, Vec::new(alloc))?,
@@ -204,7 +204,7 @@ fn watched(alloc: Global, due: usize) -> Result<WatchedOut<MemoryOut>, AllocErro
     })
 }
 
-/// Calls the program, and sees that both outputs get so many bytes in so many writes, each as it should be.
+/// Calls the program, and sees that both outputs get this many bytes in this many writes, each as it should be.
 fn expect_writes<R: Threads + Abort + Sync>(
     rt: &R,
     alloc: Global,

@@ -14,7 +14,7 @@ use Rattle.par_lexer.proofs.Running.{Bytes, step_is}
 use Rattle.par_lexer.proofs.Beginning.{before_below, next_byte, state_behind}
 use Rattle.par_lexer.proofs.Numbered.{number_leads}
 
--- so many bytes more
+-- this many bytes more
 run_on : (text : List ℕ) (from count : ℕ) → run lexer (state_before text from) (take count (drop from text)) ≡ state_before text (from + count)
 run_on text from count = sym (run_append lexer 0 (take from text) (take count (drop from text))) ∙ ap (run lexer 0) (sym (take-add from count text))
 

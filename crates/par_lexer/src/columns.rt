@@ -40,7 +40,7 @@ impl Columns {
         }
     }
 
-    // No tokens, and room for so many.
+    // No tokens, and room for this many.
     pub(crate) fn with_capacity(alloc: Global, count: usize) -> Result<Columns, AllocError>
         ensures { IfOk result (λ v. (ps : List PieceRow) → Awaits v.kinds.items v.starts.items v.lengths.items ps ps) }
     {

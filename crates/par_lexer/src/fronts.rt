@@ -61,7 +61,7 @@ fn count_bytes(ends: &[usize], parts: &[Part]) -> usize
     count
 }
 
-// Up to so many bytes of fronts are told by one worker: to start a thread takes longer.
+// Up to this many bytes of fronts are told by one worker: to start a thread takes longer.
 const FEW_BYTES: usize = 4096;
 
 // Stretches of a text: where each ends, what each tells by itself, and the state before each.

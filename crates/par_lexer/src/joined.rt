@@ -16,7 +16,7 @@ use list_cuts::{even_cuts, stretch_start};
 use par_passes::Passes;
 use std::alloc::{AllocError, Global};
 
-// So many stretches for each worker, since some take longer than others.
+// This many stretches for each worker, since some take longer than others.
 const SHARES: usize = 8;
 
 // How many bytes a stretch has: so that each worker has its share, and never fewer than a chunk.

@@ -120,7 +120,7 @@ impl<C: Crew, B: Drop + Send, F: Fn(u64) -> Result<B, AllocError> + Sync> Task
     }
 }
 
-// What so many workers make.
+// What this many workers make.
 pub(crate) fn run<C: Crew, B: Drop + Send, F: Fn(u64) -> Result<B, AllocError> + Sync>(
     crew: &C,
     claims: &ClaimBoard,

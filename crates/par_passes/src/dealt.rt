@@ -25,7 +25,7 @@ struct Filling<'a, F> {
     f: &'a F,
 }
 
-// What the function gives for each number from `from` on, at its place. So many of the first values are there already.
+// What the function gives for each number from `from` on, at its place. This many of the first values are there already.
 fn fill_behind<U: Copy, F: Fn(usize) -> U>(out: &mut [U], from: usize, known: usize, f: &F)
     requires room { from + length out.old < 2 ^ 64 }
     requires callable { All (F.pre f.now) (range_with_len from (length out.old)) }
@@ -38,7 +38,7 @@ fn fill_behind<U: Copy, F: Fn(usize) -> U>(out: &mut [U], from: usize, known: us
     }
 }
 
-// The part of chunk `c` of so many places, filled. The first value of chunk 0 is there already.
+// The part of chunk `c` of this many places, filled. The first value of chunk 0 is there already.
 fn fill_part<U: Copy, F: Fn(usize) -> U>(part: &mut Part<U>, len: usize, size: u32, c: u64, f: &F)
     requires few { len < 2 ^ 62 }
     requires wide { length (chunk_of size (range_with_len 0 len) c) ≡ length (part_items part.old) }
@@ -149,7 +149,7 @@ fn glue_back<U: Copy, N: Goods<Part<U>>>(parts: Returned<Part<U>, N>) -> Part<U>
     whole
 }
 
-// The parts, dealt to so many workers, filled and glued. Where there is no memory for the board, they come back.
+// The parts, dealt to this many workers, filled and glued. Where there is no memory for the board, they come back.
 fn fill_parts<
     C: Crew,
     U: Copy + Send + Sync,
@@ -248,7 +248,7 @@ pub(crate) fn copies<U: Copy>(alloc: Global, item: U, len: usize) -> Result<Vec<
     Ok(list)
 }
 
-// A list with so many places, with the first value in it.
+// A list with this many places, with the first value in it.
 fn begin_list<U: Copy, F: Fn(usize) -> U>(
     alloc: Global,
     len: usize,

@@ -17,7 +17,7 @@ pub(crate) struct Team {
     pub mine: Seat,
 }
 
-// The least key of so many numbers, from one on.
+// The least key of this many numbers, from one on.
 fn least_between<F: Fn(usize) -> u64, K: Lifted<usize>>(f: &F, from: usize, count: usize) -> u64
     requires room { from + count < 2 ^ 64 }
     requires callable { All (F.pre f.now) (range_with_len from count) }

@@ -11,7 +11,7 @@ use chunk_seats::Crew;
 use std::alloc::{AllocError, Global};
 use worker_teams::{chunk_start, count_chunks};
 
-// Those of so many numbers, from one on, for which the function says true.
+// Those of this many numbers, from one on, for which the function says true.
 fn choose_between<F: Fn(usize) -> bool>(
     alloc: Global,
     from: usize,

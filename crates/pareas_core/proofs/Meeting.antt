@@ -161,7 +161,7 @@ faulty lines file steps h = go (machine file steps) refl h
 overrun : (layout : Layout) (p : Program) (file : List ℕ) (m : ℕ) → Behaves layout p file → ((printed : List ℕ) × IsFaulty file m printed) → (printed : List ℕ) × Overruns layout p file m printed
 overrun layout p file m behaves (printed, faulty) = (printed, (behaves.overruns_only m printed faulty).0)
 
--- a command runs the program of this text alone, and for so many steps
+-- a command runs the program of this text alone, and for this many steps
 abbrev pub RunsOnly : Command → List ℕ → Bool → List ℕ → ℕ → Type 0
 RunsOnly c bytes fold text steps = (wanted : Bool) (source : List ℕ) (n : ℕ) → Runs c bytes wanted source n → (wanted ≡ fold) × (source ≡ text) × (n ≡ steps)
 

@@ -161,7 +161,7 @@ fn crew_for<'a, R, G>(crew: &Workers<'a, R, G>, count: usize) -> Workers<'a, R, 
     }
 }
 
-// The answers to all sources of a batch with so many records, in order.
+// The answers to all sources of a batch with this many records, in order.
 fn answer_all<R: Threads + Sync, G: Gate>(
     crew: &Workers<'_, R, G>,
     input: &[u8],

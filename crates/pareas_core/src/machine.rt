@@ -77,7 +77,7 @@ fn answer_line(alloc: Global, outcome: &Outcome) -> Result<Vec<u8>, AllocError>
     }
 }
 
-// Runs a machine for at most so many steps, and puts a line behind `out` for each number that it prints. The answer is what it has come to then.
+// Runs a machine for at most this many steps, and puts a line behind `out` for each number that it prints. The answer is what it has come to then.
 fn run_printing(
     alloc: Global,
     machine: &mut Machine,

@@ -16,7 +16,7 @@ const SMALL_TEXT: usize = 131_072;
 /// About how many bytes each function of a drill's text has.
 const DRILL_FUNCTION: usize = 122;
 
-// How many bytes the text has that is compiled, for a drill about so many. A batch is shared out by its sources, which are compiled by one worker
+// How many bytes the text has that is compiled; for a drill, about how many. A batch is shared out by its sources, which are compiled by one worker
 // each, so it counts as large.
 fn text_size(command: &Command, bytes: usize) -> usize {
     match command {

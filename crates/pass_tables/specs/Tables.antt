@@ -43,7 +43,7 @@ number_or_dash (Some n) = decimal n
 abbrev pub numbers_or_dashes : List ℕ → List (Option ℕ) → Column
 numbers_or_dashes title ns = record { title = title; align = Right; cells = map number_or_dash ns }
 
--- the numbers of so many places, from 0 on
+-- the numbers of this many places, from 0 on
 abbrev pub places : List ℕ → ℕ → Column
 places title count = numbers title (range_with_len 0 count)
 

@@ -56,7 +56,7 @@ fn address(k: usize) -> u32
     CODE_START + 4 * k as u32
 }
 
-// The addresses of so many words.
+// The addresses of this many words.
 fn addresses(alloc: Global, count: usize) -> Result<Column, AllocError>
     requires few { count ≤ 4194304 }
     ensures { IfOk result (λ column. column ≡ texts (codes "address") (map address_text (range_with_len 0 count))) }

@@ -26,7 +26,7 @@ pub(crate) fn push_or_dash(column: &mut Column, number: Option<u32>) -> Result<(
     }
 }
 
-/// The numbers from 0 on, so many.
+/// The first `count` numbers, from 0 on.
 pub(crate) fn places(alloc: Global, title: &[u8], count: usize) -> Result<Column, AllocError>
     ensures { IfOk result (λ column. column ≡ places title.now count) }
 {

@@ -63,7 +63,7 @@ fn states_from(alloc: Global, dfa: &Dfa, text: &[u8], state: u32) -> Result<Colu
     next_states(alloc, &title, dfa, text, state)
 }
 
-// Puts such a column behind others for each of the first states, so many.
+// Puts such a column behind others for each of the first `count` states.
 fn push_states(
     alloc: Global,
     columns: &mut Vec<Column>,

@@ -6,7 +6,7 @@ use crate::callers::*;
 use par_passes::Passes;
 use std::alloc::AllocError;
 
-// The examples of one pass over so many items, then those of one pass, then those of one pass that tells no gate, and then of more.
+// The examples of one pass over this many items, then those of one pass, then those of one pass that tells no gate, and then of more.
 pub(crate) const OVER_ITEMS: u32 = 5;
 
 pub(crate) const ONE_PASS: u32 = 13;

@@ -120,7 +120,7 @@ fn rounds<R: Threads + Abort + Sync>(
     Ok((passes - 3) / 2)
 }
 
-// A chain of so many nodes and a root.
+// A chain of this many nodes and a root.
 fn chain(alloc: Global, nodes: u32) -> Result<Vec<Option<u32>>, AllocError> {
     let mut parents = Vec::new(alloc);
     for node in 0..nodes {

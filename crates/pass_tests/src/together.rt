@@ -14,7 +14,7 @@ use std::thread::{Threads, available_parallelism};
 use test_gates::at;
 use word_monoid::Count;
 
-// A room in which a thread waits for another one, for so many turns at most. Once two have met there, nobody waits.
+// A room in which a thread waits for another one, for at most this many turns. Once two have met there, nobody waits.
 #[derive(Drop)]
 struct Room {
     turns: u64,
@@ -144,7 +144,7 @@ struct Key<'a> {
     number: u32,
 }
 
-// So many keys, in no order.
+// This many keys, in no order.
 fn keys(alloc: Global, room: &Room, count: u32) -> Result<Vec<Key<'_>>, AllocError> {
     let mut keys = Vec::new(alloc);
     for k in 0..count {

@@ -162,7 +162,7 @@ fn the_same_for_every_plan(rt: HostRuntime) -> Result<(), Fail> {
     Ok(())
 }
 
-// How the frames of a function main with so many variables and one more are refused, or their frame.
+// How the frames of a function main with this many variables and one more are refused, or their frame.
 fn declarations<R: Threads + Sync>(
     rt: &R,
     alloc: Global,

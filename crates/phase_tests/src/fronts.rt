@@ -210,7 +210,7 @@ fn sources_have_rows(rt: HostRuntime) -> Result<(), Fail> {
     Ok(())
 }
 
-// Why so many spaces and more are refused.
+// Why this many spaces and more are refused.
 fn spaces_are_refused<R: Threads + Sync>(
     rt: &R,
     alloc: Global,
@@ -254,7 +254,7 @@ fn repeated(alloc: Global, texts: &[Copies]) -> Result<Vec<u8>, Fail> {
     Ok(text)
 }
 
-// A function main that declares so many variables, each of another name, and uses the last one.
+// A function main that declares this many variables, each of another name, and uses the last one.
 pub(crate) fn many_names(alloc: Global, count: u32) -> Result<Vec<u8>, Fail> {
     let mut text = b"fn main(): int { var x: int = 0; ".to_vec(alloc)?;
     for n in 0..count {
@@ -328,7 +328,7 @@ fn the_first_fault_of_many_names(rt: HostRuntime) -> Result<(), Fail> {
     Ok(())
 }
 
-// A function main that calls itself with so many arguments and one more.
+// A function main that calls itself with this many arguments and one more.
 fn many_arguments(alloc: Global, count: u32) -> Result<Vec<u8>, Fail> {
     let mut text = b"fn main(): int { return main[".to_vec(alloc)?;
     for _ in 0..count {

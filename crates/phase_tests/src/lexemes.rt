@@ -188,7 +188,7 @@ fn chunks_cut_anywhere(rt: HostRuntime) -> Result<(), Fail> {
     Ok(())
 }
 
-// So many copies of a byte.
+// This many copies of a byte.
 fn copies(alloc: Global, byte: u8) -> Result<Vec<u8>, AllocError>
     ensures { IfOk result (λ v. length v.items ≡ 1048576) }
 {

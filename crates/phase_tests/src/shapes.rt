@@ -332,7 +332,7 @@ fn one_shape_for_every_plan(rt: HostRuntime) -> Result<(), Fail> {
     Ok(())
 }
 
-// So many copies of a piece, and then of another, between a beginning, a middle and an end, and how many rows that source has.
+// This many copies of a piece, and then of another, between a beginning, a middle and an end, and how many rows that source has.
 #[derive(Clone, Copy)]
 struct Long {
     beginning: &'static [u8],
@@ -445,7 +445,7 @@ fn two_workers_meet_at_rows(rt: HostRuntime) -> Result<(), Fail> {
     Ok(())
 }
 
-// How many chunks so many workers draw in all while they make the rows of a source.
+// How many chunks this many workers draw in all while they make the rows of a source.
 fn count_draws<R: Threads + Sync>(
     rt: &R,
     alloc: Global,

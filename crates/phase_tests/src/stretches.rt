@@ -17,7 +17,7 @@ fn made(place: u32, own: u32, size: u32) -> Made {
     Made { place, own, size }
 }
 
-// The columns of closed rows of the function that stand behind so many others. The last of those is the assignment.
+// The columns of closed rows of the function that stand behind this many others. The last of those is the assignment.
 fn columns_of(alloc: Global, rows: &[Made], count: u32) -> Result<Columns, AllocError>
     requires { count + length rows.now ≤ 4294967295 }
 {

@@ -43,7 +43,7 @@ module _ (parents : List (Option ℕ)) (marks : List Bool) (upward : AreUpward p
           subst (IsJump parents marks (n + n) i) (sym (get_or-map (onwards jumps) jumps i Root Root inside)) (jump_more i (jump_at jumps i) lt (all.each i lt));
     }
 
-    -- a jump that hasn't come to the end has passed so many parents
+    -- a jump that hasn't come to the end has passed this many parents
     pub open_far : (i : ℕ) → i < length jumps → is_open (jump_at jumps i) ≡ true → (n < length parents) × ((d : ℕ) → AreWithin parents marks d → n ≤ d)
     open_far i lt is = by (jump_at jumps i) is (all.each i inside)
       where
@@ -98,7 +98,7 @@ jumps_first parents marks out gives = record { as_many = many; each = λ i lt. g
     number : (i : ℕ) → i < length parents → slice_get (range_with_len 0 (length parents)) i ≡ Some i
     number i lt = slice_get-get_or (range_with_len 0 (length parents)) i 0 (let n = range in omega arith) ∙ ap (λ (k : ℕ). Some k) (get_or-range_with_len 0 (length parents) i 0 lt ∙ omega arith)
 
--- after so many rounds
+-- after this many rounds
 pub record AreRounds (parents : List (Option ℕ)) (marks : List Bool) (r : ℕ) (jumps : List Jump) : Type 0 where
   pub jumps_are : AreJumps parents marks (2 ^ r) jumps
   pub few : (d : ℕ) → AreWithin parents marks d → 2 ^ r ≤ 2 * d + 1

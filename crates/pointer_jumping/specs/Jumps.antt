@@ -30,7 +30,7 @@ is_open Root = false
 is_open (Found p) = false
 is_open (To j) = true
 
--- the node where it stands is one of so many
+-- the node where it stands is one of this many
 abbrev pub StandsBelow : ℕ → Jump → Type 0
 StandsBelow n Root = Unit {0}
 StandsBelow n (Found p) = Unit {0}

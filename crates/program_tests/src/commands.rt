@@ -99,7 +99,7 @@ fn sources_have_a_limit(rt: HostRuntime) -> Result<(), Fail> {
     Ok(())
 }
 
-/// Programs that get so many steps: some exit, some don't.
+/// Programs that get this many steps: some exit, some don't.
 const STEPS: &[Row] = &[
     (
         &["run", "--steps", "14"],

@@ -36,7 +36,7 @@ closed o ms = ms ++ record { place = o.place; own = o.own; size = suc (length ms
 abbrev pub stays : (level : ℕ) (waits : Bool) → Open → Bool
 stays level waits o = nat_lt o.bound level || (waits && (o.joinable && nat_eq o.bound level))
 
--- what is left where so many nonterminals are open, with an else next or not
+-- what is left where this many nonterminals are open, with an else next or not
 abbrev pub cut : (level : ℕ) (waits : Bool) → List Open → List Made → Rows
 cut level waits [] ms = record { stack = []; made = ms }
 cut level waits (o ∷ os) ms = if stays level waits o then record { stack = o ∷ os; made = ms } else cut level waits os (closed o ms)
@@ -47,7 +47,7 @@ last_size [] = 0
 last_size (m ∷ []) = m.size
 last_size (m ∷ (n ∷ ms)) = last_size (n ∷ ms)
 
--- The row of a production that begins at a place, where so many nonterminals are open and so many owned tokens are read: behind all closed rows,
+-- The row of a production that begins at a place, where this many nonterminals are open and this many owned tokens are read: behind all closed rows,
 -- or before the operand on its left, which is the last of them with its subtree. A call has the token of the name right before it
 abbrev pub opened : Production → (place level read : ℕ) → List Made → Open
 opened p place level read ms = record {

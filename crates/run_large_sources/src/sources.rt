@@ -5,46 +5,46 @@ use std::alloc::{AllocError, Global};
 /// A source of many bytes.
 #[derive(Clone, Copy)]
 pub(crate) enum Source {
-    /// So many variables, each of which takes a word of the frame of `main`.
+    /// This many variables, each of which takes a word of the frame of `main`.
     Variables(u32),
-    /// So many statements of one word each.
+    /// This many statements of one word each.
     Zeros(u32),
-    /// A piece so many times between a beginning and an end.
+    /// A piece this many times between a beginning and an end.
     Filled {
         before: &'static [u8],
         piece: &'static [u8],
         count: u32,
         behind: &'static [u8],
     },
-    /// So many bytes of white space alone.
+    /// This many bytes of white space alone.
     Spaces(usize),
-    /// A program whose value is an expression that begins and ends so many times with these pieces.
+    /// A program whose value is an expression that begins and ends this many times with these pieces.
     Around {
         before: &'static [u8],
         count: u32,
         middle: &'static [u8],
         behind: &'static [u8],
     },
-    /// A program with a statement inside so many others.
+    /// A program with a statement inside this many others.
     Blocks {
         before: &'static [u8],
         count: u32,
         behind: &'static [u8],
     },
-    /// One line with a name of `length` bytes in a declaration and in so many sums.
+    /// One line with a name of `length` bytes in a declaration and in this many sums.
     LongNames {
         length: usize,
         count: u32,
     },
-    /// A comment of so many bytes behind a program.
+    /// A comment of this many bytes behind a program.
     Comment(u32),
-    /// So many functions besides the first one, each of which adds one to what the one before it gives.
+    /// This many functions besides the first one, each of which adds one to what the one before it gives.
     CallsInARow(u32),
-    /// So many functions that give 0, and `main`, which calls the first of them.
+    /// This many functions that give 0, and `main`, which calls the first of them.
     Names(u32),
-    /// A call of a function without parameters with so many arguments.
+    /// A call of a function without parameters with this many arguments.
     Arguments(u32),
-    /// A chain of so many else-ifs, of which the last one is taken, and prints its number.
+    /// A chain of this many else-ifs, of which the last one is taken, and prints its number.
     ElseIfs(u32),
 }
 
@@ -82,7 +82,7 @@ impl Source {
     }
 }
 
-// Puts a piece of text behind another one so many times.
+// Puts a piece of text behind another one this many times.
 fn repeat(text: &mut Vec<u8>, piece: &[u8], count: u32) -> Result<(), AllocError> {
     for _ in 0..count {
         text.extend_from_slice(piece)?;

@@ -49,7 +49,7 @@ module _ (c : ProgramColumns) (layout : Layout) (s : Places) (main : ℕ) (p : P
       let none = sum_first layout c in
       length-map (head_of c layout s main) word ∙ head_sized layout _ (start_of (start_in c 0)) ∙ omega arith
 
-  -- the rows from one on, so many
+  -- this many rows, from one on
   rows_long : (n from : ℕ) → from + n ≤ long → At from + length (flat_map (piece_of c layout s main) (range_with_len from n)) ≡ At (from + n)
   rows_long zero from le =
       let z : from ≡ from + 0 = omega arith in
@@ -116,7 +116,7 @@ module _ (c : ProgramColumns) (layout : Layout) (s : Places) (main : ℕ) (p : P
     pub before_is : (size words n row : ℕ) → words ≡ words_many layout c → row ≡ min (n * size) long → get_or s.at.now row words ≡ words_before c layout s main size (suc n)
     before_is size words n row all is = place_read words row all (omega arith) ∙ ap At is ∙ sym (parts_long size n)
 
--- the lists of so many numbers, and of so many behind them
+-- the lists of this many numbers, and of this many behind them
 pub parts_more : (part : ℕ → List ℕ) (a n : ℕ) → flat_map part (range_with_len 0 (a + n)) ≡ flat_map part (range_with_len 0 a) ++ flat_map (λ k. part (a + k)) (range_with_len 0 n)
 parts_more part a zero =
     let z : a + 0 ≡ a = omega arith in

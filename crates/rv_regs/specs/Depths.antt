@@ -25,11 +25,11 @@ module _ (kinds : List Kind) (parents places : List ℕ) where
   abbrev pub Adds : (from to : ℕ) → ℤ → Type 0
   Adds from to x = IsItem signed x × (signed.join (sum_before from) x ≡ sum_before to)
 
-  -- what the first so many stretches add, of those that end at these places
+  -- what this many of the first stretches add, of those that end at these places
   pub record AreSums (ends : List ℕ) (count : ℕ) (sums : List ℤ) : Type 0 where
     pub many : length sums ≡ count
     pub each : (c : ℕ) (x : ℤ) → slice_get sums c ≡ Some x → Adds (start_of ends c) (number_at ends c) x
 
-  -- the sums before the first so many stretches, and behind them
+  -- the sums before this many of the first stretches, and behind them
   abbrev pub AreStarts : (ends : List ℕ) → ℕ → List ℤ → Type 0
   AreStarts ends count starts = starts ≡ map (λ c. sum_before (start_of ends c)) (range_with_len 0 (suc count))

@@ -120,7 +120,7 @@ pub(crate) fn put_jump(
     }
 }
 
-/// A jump over so many words.
+/// A jump over this many words.
 pub(crate) fn put_over(out: &mut Vec<u32>, layout: Layout, words: u32) -> Result<(), AllocError>
     requires near { words + 1 < most_words (code_layout layout) }
     ensures { OnOk result (out.new.items ≡ out.old.items ++ map word (over_words (code_layout layout) words)) }
@@ -131,7 +131,7 @@ pub(crate) fn put_over(out: &mut Vec<u32>, layout: Layout, words: u32) -> Result
     }
 }
 
-/// A jump back over so many words.
+/// A jump back over this many words.
 pub(crate) fn put_back(out: &mut Vec<u32>, layout: Layout, words: u32) -> Result<(), AllocError>
     requires near { words ≤ most_words (code_layout layout) }
     ensures { OnOk result (out.new.items ≡ out.old.items ++ map word (back_words (code_layout layout) words)) }
@@ -139,7 +139,7 @@ pub(crate) fn put_back(out: &mut Vec<u32>, layout: Layout, words: u32) -> Result
     put_jump(out, layout, 0, words, 0)
 }
 
-/// A test, and a jump over so many words.
+/// A test, and a jump over this many words.
 pub(crate) fn put_test(
     out: &mut Vec<u32>,
     layout: Layout,
@@ -154,7 +154,7 @@ pub(crate) fn put_test(
     put_over(out, layout, words)
 }
 
-/// A test of slot 0, and a jump over so many words where it fails.
+/// A test of slot 0, and a jump over this many words where it fails.
 pub(crate) fn put_unless(out: &mut Vec<u32>, layout: Layout, words: u32) -> Result<(), AllocError>
     requires near { words + 1 < most_words (code_layout layout) }
     ensures { OnOk result (out.new.items ≡ out.old.items ++ map word (Bne 9 0 (test_offset_of (code_layout layout)) ∷ over_words (code_layout layout) words)) }

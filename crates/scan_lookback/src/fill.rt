@@ -11,7 +11,7 @@ use std::alloc::{AllocError, Global};
 use std::thread::{Threads, for_each_chunk_mut};
 use word_monoid::WordMonoid;
 
-// What a list is made of, before its items are known: so many times one item.
+// What a list is made of, before its items are known: this many times one item.
 #[derive(Clone, Copy)]
 pub(crate) struct BlankList<I: Copy> {
     pub alloc: Global,
@@ -31,7 +31,7 @@ impl<I: Copy> BlankList<I> {
     }
 }
 
-// The chunk with which a piece of so many chunks begins.
+// The chunk with which a piece of this many chunks begins.
 fn first_chunk(from: usize, per: usize, size: u32) -> usize
     requires size { (0 < size) × (0 < per) × (per * size < 2 ^ 64) }
     requires place { from % (per * size) ≡ 0 }
@@ -40,7 +40,7 @@ fn first_chunk(from: usize, per: usize, size: u32) -> usize
     from / (per * size as usize) * per
 }
 
-// So many items from a place on.
+// This many items from a place on.
 fn stretch<T>(items: &[T], from: usize, len: usize) -> &[T]
     requires { from + len ≤ length items.now }
     ensures { result.now ≡ take len (drop from items.now) }
@@ -49,7 +49,7 @@ fn stretch<T>(items: &[T], from: usize, len: usize) -> &[T]
 }
 
 impl<T: Copy, M: WordMonoid, F: Fn(T) -> M::Item> Scanned<'_, T, M, F> {
-    // The joins before each item of a piece of so many chunks, which begins where a chunk does.
+    // The joins before each item of a piece of this many chunks, which begins where a chunk does.
     fn fill_piece<N: Chunks<M::Item>>(
         &self,
         starts: &[M::Item],
@@ -75,7 +75,7 @@ impl<
     M: WordMonoid<Item: Send + Sync> + Sync,
     F: Fn(T) -> M::Item + Sync,
 > Scanned<'a, T, M, F> {
-    // The joins before each item. Each worker fills a piece of so many chunks.
+    // The joins before each item. Each worker fills a piece of this many chunks.
     pub(crate) fn fill<N: Chunks<M::Item> + Send + Sync, R: Threads + Sync>(
         &self,
         rt: &R,

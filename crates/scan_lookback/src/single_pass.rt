@@ -75,7 +75,7 @@ impl<
         Ok(Started { starts, list })
     }
 
-    // The joins before each item, and the join of all, where the joins before the chunks are known. Each worker fills pieces of so many chunks.
+    // The joins before each item, and the join of all, where the joins before the chunks are known. Each worker fills pieces of this many chunks.
     fn finish<C: Crew, N: Chunks<M::Item> + Send + Sync>(
         &self,
         crew: &C,

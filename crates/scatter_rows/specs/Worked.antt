@@ -9,7 +9,7 @@ pub record AreFit (words : ℕ) (places values : List ℕ) : Type 0 where
   pub inside : (i : ℕ) → i < length places → slice_index places i < words
   pub small : (i : ℕ) → i < length places → slice_index values i < 2 ^ 64 - 1
 
--- of so many items, which are cut into chunks of that size, the chunk c has the item i
+-- of this many items, which are cut into chunks of that size, the chunk c has the item i
 pub record IsOf (size count c i : ℕ) : Type 0 where
   pub from : c * size ≤ i
   pub to : i < c * size + size

@@ -96,7 +96,7 @@ impl<N: Pairs, F: Fn(u64) -> Result<Vec<u32>, AllocError>> Chunks<N> for Startin
     }
 }
 
-// The values, of which there are so many, written by the workers that make them.
+// The values, of which there are this many, written by the workers that make them.
 fn put_parts<C: Crew, F: Fn(u64) -> Result<Vec<u32>, AllocError> + Sync, N: Pairs + Send + Sync>(
     crew: &C,
     starts: &[u32],

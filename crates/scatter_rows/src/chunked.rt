@@ -14,7 +14,7 @@ pub(crate) trait Chunks<N: Pairs> {
     /// How many chunks there are.
     ghost count: { Self → ℕ };
 
-    /// The pairs are those of the call, and a table of so many words has their places.
+    /// The pairs are those of the call, and a table of this many words has their places.
     ghost fit: { Self → ℕ → Type 0 };
 
     /// The chunk has the pair of that index.

@@ -7,7 +7,7 @@ use std::alloc::{AllocError, AllocFailed};
 /// Why the functions of an automaton have no numbers.
 #[derive(Debug, Clone, Copy, PartialEq, Eq)]
 pub enum BuildFault {
-    /// There are more than 4,096 functions. So many had been reached: 4,097.
+    /// There are more than 4,096 functions. This many had been reached: 4,097.
     TooMany { reached: u32 },
     /// Out of memory.
     NoMemory,

@@ -24,7 +24,7 @@ pub const PLANS: &[(u32, u32)] = &[
 #[derive(Debug, Drop)]
 pub struct OutOfRange;
 
-/// The workers of a plan at a gate: so many, and chunks of that size. A refusal comes exactly where one of the numbers is out of range.
+/// The workers of a plan at a gate: this many, who draw chunks of that size. A refusal comes exactly where one of the numbers is out of range.
 pub fn at<'a, R, G>(
     runtime: &'a R,
     alloc: Global,

@@ -4,7 +4,7 @@ ghost use Rattle.std.specs.Prelude.{◌<◌};
 use chunk_seats::Gate;
 use std::sync::atomic::{AtomicU64, Ordering};
 
-/// The worker that draws chunk 0 of a pass waits until the other one has drawn a chunk of that pass too, for so many turns at most. What was
+/// The worker that draws chunk 0 of a pass waits until the other one has drawn a chunk of that pass too, for at most this many turns. What was
 /// drawn in earlier passes doesn't count: a worker's passes are numbered by how often it has found no chunk left behind those that it drew. A
 /// pass in which one worker draws alone, as where there is only one chunk, is counted apart.
 #[derive(Drop)]

@@ -16,7 +16,7 @@ padded_in line c = padded c.align (width c) (text_in line c)
 abbrev pub line_text : Line → List Column → List ℕ
 line_text line columns = line_of (map (padded_in line) columns)
 
--- of so many spaces that a text lacks, those before it, and how many come behind it
+-- of this many spaces that a text lacks, those before it, and how many come behind it
 abbrev pub before : Align → ℕ → List ℕ
 before Left lacking = []
 before Right lacking = spaces lacking

@@ -76,7 +76,7 @@ fn refuses_broken_records(rt: HostRuntime) -> Result<(), Fail> {
     Ok(())
 }
 
-/// How many records are read of so many empty ones and some bytes, or the fault.
+/// How many records are read of this many empty ones and some bytes, or the fault.
 fn empty_records(alloc: Global, count: usize, behind: usize) -> Result<usize, BatchError>
     requires few { count ≤ 65537 }
     requires less { behind ≤ 3 }

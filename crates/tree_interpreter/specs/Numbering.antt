@@ -7,11 +7,11 @@ use Rattle.tree_interpreter.specs.declared.numbering.Entry.{Entry}
 abbrev pub entry_of : ℕ → ℕ → Entry
 entry_of n count = record { next = n; length = count }
 
--- two parts behind so many declared variables, one after the other, with an entry for both
+-- two parts behind this many declared variables, one after the other, with an entry for both
 abbrev pub joined : ℕ → List Entry → List Entry → List Entry
 joined n xs ys = entry_of n (suc (length xs + length ys)) ∷ (xs ++ ys)
 
--- a statement, and statements, behind so many declared variables
+-- a statement, and statements, behind this many declared variables
 abbrev mutual
   pub numbers : ℕ → Stmt → List Entry
   numbers n (var at x ty e) = entry_of n 1 ∷ []

@@ -56,7 +56,7 @@ module _ (p : Program) (turns : ℕ) where
   abbrev pub world_in : Opened → World
   world_in o = record { program = p; turns = turns; calls = call_in p turns o.calls o.left }
 
-  -- what expressions, statements and calls do in an open call; a statement stands behind so many declared variables
+  -- what expressions, statements and calls do in an open call; a statement stands behind this many declared variables
   abbrev pub value_in : Opened → ExprTree → Run ℕ
   value_in o e = value (world_in o) (scope_with o.names 0) o.table e
 

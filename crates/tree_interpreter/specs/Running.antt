@@ -34,7 +34,7 @@ name_of v = (v.name, v.number)
 abbrev pub variable_named : List ℕ × ℕ → Variable
 variable_named n = record { name = n.0; type = Int; number = n.1; level = 0; at = 0 }
 
--- a scope with these names, where so many variables were declared
+-- a scope with these names, where this many variables were declared
 abbrev pub scope_with : List (List ℕ × ℕ) → ℕ → Scope
 scope_with ns next = record { variables = map variable_named ns; next = next; level = 0 }
 

@@ -6,7 +6,7 @@ use Rattle.tree_interpreter.specs.declared.callees.Callee.{Callee}
 use Rattle.tree_interpreter.specs.declared.rests.Rest.{Rest}
 use Rattle.tree_interpreter.specs.declared.rests.Rest.TheVariants.{Evaluate, Unary, Right, Binary, And, Or, Store, Argument, Initialize, Discard, RunAll, Declare, Forget, If, IfElse, Turn, Again, Run, Return, Print, Caller}
 
--- where each call weighs so much, and each loop makes at most so many turns
+-- where each call weighs this much, and each loop makes at most this many turns
 module _ (calls turns : ℕ) where
   abbrev mutual
     pub expr_weight : Expr → ℕ

@@ -43,7 +43,7 @@ impl<'a> Callee<'a> {
         })
     }
 
-    /// What a call leaves of so many bytes of the stack, or None where its frame doesn't fit.
+    /// What a call leaves of this many bytes of the stack, or None where its frame doesn't fit.
     pub(crate) fn left_behind(&self, left: u32) -> Option<u32>
         ensures { MatchOption result (nat_lt left (frame (function_of self.now.function.now)).bytes ≡ true) (λ rest. (nat_lt left (frame (function_of self.now.function.now)).bytes ≡ false)
             × (rest ≡ left - (frame (function_of self.now.function.now)).bytes)

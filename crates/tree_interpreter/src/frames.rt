@@ -12,7 +12,7 @@ use crate::parts::{Part, Parts};
 use crate::trees::{Args, Expr, Function, Stmt, Stmts};
 use std::alloc::{AllocError, Global};
 
-/// How many slots an expression uses beside those that the parts in it need, where so many values are kept.
+/// How many slots an expression uses beside those that the parts in it need, where this many values are kept.
 fn used_by<'a>(parts: &mut Parts<'a>, e: &'a Expr, kept: u32) -> Result<u32, AllocError>
     ensures same { IfOk result (λ own. capped (max own (most_of (listed parts.new))) ≡ capped (max (kept + slots (expr_of e.now)) (most_of (listed parts.old)))) }
     ensures less { IfOk result (λ own. weigh_parts (listed parts.new) < suc (expr_weight 0 1 (expr_of e.now) + weigh_parts (listed parts.old))) }
@@ -199,7 +199,7 @@ pub(crate) fn variables_of(alloc: Global, s: &Stmt) -> Result<u32, AllocError>
     Ok(count)
 }
 
-/// The bytes of a frame with so many words, rounded up to a multiple of 16.
+/// The bytes of a frame with this many words, rounded up to a multiple of 16.
 fn bytes_of_words(words: u64) -> u64
     requires { words < 2 ^ 40 }
     ensures { result ≡ frame_bytes words }
@@ -207,7 +207,7 @@ fn bytes_of_words(words: u64) -> u64
     16 * ((4 * words + 15) / 16)
 }
 
-/// The bytes of a frame that uses so many slots and has so many variables.
+/// The bytes of a frame that uses this many slots and has this many variables.
 fn bytes_for(used: u32, locals: u64) -> u64
     requires { locals < 2 ^ 34 }
     ensures { result ≡ (frame_for used locals).bytes }
@@ -216,7 +216,7 @@ fn bytes_for(used: u32, locals: u64) -> u64
     bytes_of_words(1 + used.min(11) + locals + used.saturating_sub(11))
 }
 
-/// The bytes of a function's frame, where the body declares so many variables.
+/// The bytes of a function's frame, where the body declares this many variables.
 pub(crate) fn frame_of(alloc: Global, f: &Function, variables: u32) -> Result<u64, AllocError>
     ensures { variables ≡ capped (variables_in (stmt_of f.now.body)) → IfOk result (λ bytes. min bytes (2 ^ 32) ≡ min (frame (function_of f.now)).bytes (2 ^ 32)) }
 {
@@ -224,7 +224,7 @@ pub(crate) fn frame_of(alloc: Global, f: &Function, variables: u32) -> Result<u6
     Ok(bytes_for(slots_of(alloc, &f.body)?, params as u64 + variables as u64))
 }
 
-/// What a frame of so many bytes leaves of the stack.
+/// What a frame of this many bytes leaves of the stack.
 pub(crate) fn rest_behind(left: u32, bytes: u64) -> Option<u32>
     ensures { MatchOption result (nat_lt left bytes ≡ true) (λ rest. (nat_lt left bytes ≡ false) × (rest ≡ left - bytes)) }
 {

@@ -54,7 +54,7 @@ impl Numbering {
         self.add(1)
     }
 
-    /// Adds an entry before those behind so many first ones.
+    /// Adds an entry behind the first `from` ones.
     fn join(&mut self, from: usize) -> Result<(), AllocError>
         ensures { OnOk result ((done self.new ≡ entry_of self.old.next (suc (length (done self.old) - from)) ∷ done self.old) × (self.new.next ≡ self.old.next)) }
     {

@@ -81,7 +81,7 @@ impl<'a> Branches<'a> {
     }
 }
 
-/// A loop that may make so many more turns.
+/// A loop that may make this many more turns.
 #[derive(Clone, Copy)]
 pub(crate) struct Loop<'a> {
     pub(crate) condition: &'a Expr,

@@ -71,7 +71,7 @@ impl<'a> OpenCall<'a> {
         }
     }
 
-    /// The value of an expression of at most so many levels that has no operators but those that compute all their sides.
+    /// The value of an expression of at most this many levels that has no operators but those that compute all their sides.
     fn value_within(&self, e: &Expr, levels: u32) -> Option<u32>
         ensures { MatchOption result (Unit {0}) (HasValue self.now (expr_of e.now)) }
     {

@@ -32,7 +32,7 @@ fn reduce_by_number(
     reduce_stretch(alloc, parse.numbers, from, parse.ends[c])
 }
 
-/// What is left of the pieces of so many stretches.
+/// What is left of the pieces of this many stretches.
 pub(crate) fn reduce_all(
     crew: &impl Passes,
     parse: Parse<'_>,

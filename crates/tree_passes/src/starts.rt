@@ -33,7 +33,7 @@ fn tally_by_number(parse: Parse<'_>, c: usize) -> Tally
     tally_stretch(parse.numbers, from, parse.ends[c])
 }
 
-/// What each of so many stretches opens and reads.
+/// What each of this many stretches opens and reads.
 pub(crate) fn tally_all(
     crew: &impl Passes,
     parse: Parse<'_>,

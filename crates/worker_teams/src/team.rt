@@ -14,10 +14,10 @@ pub trait Task {
     /// What a team leaves.
     type Made: Drop + Send;
 
-    /// A team of so many workers may begin with these seats.
+    /// A team of this many workers may begin with these seats.
     ghost begins: { Self → ℕ → Self.Seats → Type 0 };
 
-    /// A team of so many workers may leave this.
+    /// A team of this many workers may leave this.
     ghost ends: { Self → ℕ → Self.Made → Type 0 };
 
     /// Splits off the seats of `half` workers. Those of the `rest` are kept.
@@ -40,7 +40,7 @@ pub trait Task {
         ensures { ends self.now (rest + half) result };
 }
 
-/// So many workers do the task, each in a thread of its own where threads can be made. The first of them has the number `first`.
+/// This many workers do the task, each in a thread of its own where threads can be made. The first of them has the number `first`.
 pub fn run<R: Threads + Sync, J: Task + Send + Sync>(
     rt: &R,
     task: &J,

@@ -68,7 +68,7 @@ module _ (parents : List ℕ) where
   are_rest [] ys i h = let z : i ≡ i + 0 = omega arith in subst (λ (n : ℕ). Are n ys) z h
   are_rest (x ∷ xs) ys i h = let z : (i + 1) + length xs ≡ i + suc (length xs) = omega arith in subst (λ (n : ℕ). Are n ys) z (are_rest xs ys (i + 1) h.1)
 
-  -- The rows from i on, so many, stand for siblings and all below them: their parents stand behind them and no further than the
+  -- This many rows from i on stand for siblings and all below them: their parents stand behind them and no further than the
   -- siblings' parent; and of what each row's parents tell this is known.
   record Begun (i n : ℕ) (lows : List ℕ) : Type 0 where
     inside : (k : ℕ) → i ≤ k → k < i + n → (k < par k) × (par k ≤ i + n)

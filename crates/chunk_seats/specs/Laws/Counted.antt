@@ -1,4 +1,4 @@
--- How many chunks of a size so many items make: each begins before the end, and they have all items.
+-- How many chunks of a size this many items make: each begins before the end, and they have all items.
 use Rattle.std.proofs.Common.{◌≡◌, ℕ, suc, ◌+◌, ◌-◌, ◌*◌, ◌%◌, ◌<◌, ◌≤◌, arith, suc-mul, mul-le-mul_right, div-add-mod'}
 use mathlib.Core.Logic.{dite}
 use native.Mathlib.Decide.{dec_le}

@@ -63,7 +63,7 @@ module _ {X : Type 0} (size k : ℕ) (all rest : List X) (is : rest ≡ drop (k 
       let long = length-drop (k * size) all in let t = more_times k count size more in
       is ∙ sym (take_all size (drop (k * size) all) (omega arith))
 
--- that many of the first parts have so many values together
+-- that many of the first parts have this many values together
 abbrev pub total : {X : Type 0} → ℕ → List (Part X) → ℕ
 total k xs = length (flat_map part_items (take k xs))
 

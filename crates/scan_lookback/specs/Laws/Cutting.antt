@@ -14,7 +14,7 @@ use Rattle.word_monoid.specs.Laws.Folds.{get_below, get_at, all_at, fold_of-item
 use Rattle.scan_lookback.specs.Cuts.{Lifts, GivesItems, sums_of, running, Scans}
 use Rattle.scan_lookback.specs.Laws.Lists.{get_take, take_get, get_drop, get_range, map_ranges}
 
--- a piece of so many chunks has few items
+-- a piece of this many chunks has few items
 pub piece_small : (n size per : ℕ) → 0 < size → size ≤ 65536 → n < 2 ^ 62 → per ≤ max (chunk_count size n) 1 → per * size < 2 ^ 64
 piece_small n size per pos small short h =
     let q : ℕ = chunk_count size n in
@@ -135,7 +135,7 @@ module _ {I : Type 0} (ops : Ops I) (laws : IsMonoid ops) (size : ℕ) (pos : 0 
       got (y ∷ ys) zero d x at = cc
       got (y ∷ ys) (suc k) d x at = got ys k d x at
 
-  -- the join before a place, and so many items more
+  -- the join before a place, and this many items more
   prefix_join : (a k : ℕ) → prefix_of ops items (a + k) ≡ ops.join (prefix_of ops items a) (fold_of ops (take k (drop a items)))
   prefix_join a k = ap (fold_of ops) (take-add a k items) ∙ fold_append ops laws (take a items) (take k (drop a items)) (All-take (IsItem ops) a items ok) (chunk_items a k)
 
