@@ -24,7 +24,7 @@ use Rattle.simulation.specs.Behaves.{Behaves, IsFaulty, Overruns}
 use Rattle.table_text.specs.Answers.{IsTableAnswer}
 use Rattle.table_text.specs.declared.answer.TableAnswer.{TableAnswer}
 use Rattle.table_text.specs.declared.answer.TableAnswer.TheVariants as answers
-use Rattle.pareas_core.specs.Output.{Due, done, due_of_verdict, due_of_machine, due_of_dump, due_of_asm, due_of_drill, drill_lines, drill_steps, due_of_table, status_of, IsDue, built, ran, shown, unshown, paged, unpaged, batched, bad_batch, emulated, listed, assembled, tabled, drilled, explained}
+use Rattle.pareas_core.specs.Output.{Due, done, due_of_verdict, due_of_build, Refuses, due_of_machine, due_of_dump, due_of_asm, due_of_drill, drill_lines, drill_steps, due_of_table, status_of, IsDue, built, ran, shown, unshown, paged, unpaged, batched, bad_batch, emulated, listed, assembled, tabled, drilled, explained}
 use Rattle.pareas_core.specs.Reading.{WritesPrefix}
 use Rattle.pareas_core.specs.Headline.{CompilesTo, RunsAs, Runs, what_was_read, what_was_made, HasRun, reads, read_by, End, HasFailed, HasWorked, GotPrefix, IsWritten, IsAnswer, MeetsWords}
 use Rattle.pareas_core.specs.Responses.{HasRead, IsToldOf, IsResponse, IsDelivered, whole, broken_off}
@@ -292,20 +292,17 @@ explains code bytes d is = record {
 
 -- ---- the tables of a pass
 
-abbrev nothing : Program → Due
-nothing p = done []
-
 module _ (pass : Pass) (bytes : List ℕ) where
   IsShownDue : Due → Type 0
   IsShownDue e = (text : List ℕ) × Shows bytes pass text × (e ≡ done text)
 
   IsUnshownDue : Due → Type 0
-  IsUnshownDue e = (v : Verdict) × ((text : List ℕ) → ¬ Shows bytes pass text) × IsVerdict false bytes v × (e ≡ due_of_verdict nothing bytes v)
+  IsUnshownDue e = (v : Verdict) × ((text : List ℕ) → ¬ Shows bytes pass text) × IsVerdict false bytes v × Refuses v × (e ≡ due_of_build bytes v)
 
   show_due : (e : Due) → IsDue (Show pass) bytes e → IsShownDue e ⊎ IsUnshownDue e
   unfolding IsShownDue IsUnshownDue
   show_due _ (shown {text = text} is) = inl (text, is, refl)
-  show_due _ (unshown {v = v} none is) = inr (v, none, is, refl)
+  show_due _ (unshown {v = v} none is refused) = inr (v, none, is, refused, refl)
 
   pub shows : ((a b : List ℕ) → Shows bytes pass a → Shows bytes pass b → a ≡ b) → (text : List ℕ) (d : Due) → Shows bytes pass text → d ≡ done text → IsResponse (Show pass) bytes d
   unfolding IsShownDue IsUnshownDue
@@ -316,19 +313,23 @@ module _ (pass : Pass) (bytes : List ℕ) where
     ran = λ wanted source n runs h. absurd (no_show_run pass wanted bytes source n runs);
   }
 
-  unshown_due : OneVerdict false bytes → (v : Verdict) (d : Due) → ((text : List ℕ) → ¬ Shows bytes pass text) → IsVerdict false bytes v → d ≡ due_of_verdict nothing bytes v → IsResponse (Show pass) bytes d
+  unshown_due : OneVerdict false bytes → (v : Verdict) (d : Due) → ((text : List ℕ) → ¬ Shows bytes pass text) → IsVerdict false bytes v → Refuses v → d ≡ due_of_build bytes v → IsResponse (Show pass) bytes d
   unfolding IsShownDue IsUnshownDue
-  unshown_due one v d none is same = record {
-    due = subst (IsDue (Show pass) bytes) (sym same) (unshown none is);
-    only = λ e h. elim (show_due e h) [ inl o ↦ absurd (none o.0 o.1) | inr o ↦ o.3 ∙ ap (due_of_verdict nothing bytes) (one o.0 v o.2 is) ∙ sym same ];
+  unshown_due one v d none is refused same = record {
+    due = subst (IsDue (Show pass) bytes) (sym same) (unshown none is refused);
+    only = λ e h. elim (show_due e h) [ inl o ↦ absurd (none o.0 o.1) | inr o ↦ o.4 ∙ ap (due_of_build bytes) (one o.0 v o.2 is) ∙ sym same ];
     built = λ wanted build is_done. let e : Show pass ≡ Build wanted = build in cc;
     ran = λ wanted source n runs h. absurd (no_show_run pass wanted bytes source n runs);
   }
 
   pub shows_none : OneVerdict false bytes → (r : Refusal) (d : Due) → IsUnshown bytes pass r → IsToldOf bytes r d → IsResponse (Show pass) bytes d
-  shows_none one (Diagnostic code at) d h line = unshown_due one (Diagnosed code at) d h.1 h.0 line
-  shows_none one (Limit code at size) d h line = unshown_due one (Limited code at size) d h.1 h.0 line
+  shows_none one (Diagnostic code at) d h line = unshown_due one (Diagnosed code at) d h.1 h.0 tt line
+  shows_none one (Limit code at size) d h line = unshown_due one (Limited code at size) d h.1 h.0 tt line
   shows_none one NoMemory d h line = absurd line
+
+  pub accepted_shown : OneVerdict false bytes → (p : Program) (d : Due) → IsVerdict false bytes (Accepted p) → IsDue (Show pass) bytes d → (text : List ℕ) × Shows bytes pass text × (d ≡ done text)
+  unfolding IsShownDue IsUnshownDue
+  accepted_shown one p d is due = elim (show_due d due) [ inl o ↦ o | inr o ↦ absurd (subst Refuses (one o.0 (Accepted p) o.2 is) o.3) ]
 
 -- ---- the page
 
@@ -337,12 +338,12 @@ module _ (bytes : List ℕ) where
   IsPagedDue e = (text : List ℕ) × IsPage bytes text × (e ≡ done text)
 
   IsUnpagedDue : Due → Type 0
-  IsUnpagedDue e = (v : Verdict) × ((text : List ℕ) → ¬ IsPage bytes text) × IsVerdict false bytes v × (e ≡ due_of_verdict nothing bytes v)
+  IsUnpagedDue e = (v : Verdict) × ((text : List ℕ) → ¬ IsPage bytes text) × IsVerdict false bytes v × Refuses v × (e ≡ due_of_build bytes v)
 
   page_due : (e : Due) → IsDue Page bytes e → IsPagedDue e ⊎ IsUnpagedDue e
   unfolding IsPagedDue IsUnpagedDue
   page_due _ (paged {text = text} is) = inl (text, is, refl)
-  page_due _ (unpaged {v = v} none is) = inr (v, none, is, refl)
+  page_due _ (unpaged {v = v} none is refused) = inr (v, none, is, refused, refl)
 
   pub pages : ((a b : List ℕ) → IsPage bytes a → IsPage bytes b → a ≡ b) → (text : List ℕ) (d : Due) → IsPage bytes text → d ≡ done text → IsResponse Page bytes d
   unfolding IsPagedDue IsUnpagedDue
@@ -353,19 +354,23 @@ module _ (bytes : List ℕ) where
     ran = λ wanted source n runs h. absurd (no_page_run wanted bytes source n runs);
   }
 
-  unpaged_due : OneVerdict false bytes → (v : Verdict) (d : Due) → ((text : List ℕ) → ¬ IsPage bytes text) → IsVerdict false bytes v → d ≡ due_of_verdict nothing bytes v → IsResponse Page bytes d
+  unpaged_due : OneVerdict false bytes → (v : Verdict) (d : Due) → ((text : List ℕ) → ¬ IsPage bytes text) → IsVerdict false bytes v → Refuses v → d ≡ due_of_build bytes v → IsResponse Page bytes d
   unfolding IsPagedDue IsUnpagedDue
-  unpaged_due one v d none is same = record {
-    due = subst (IsDue Page bytes) (sym same) (unpaged none is);
-    only = λ e h. elim (page_due e h) [ inl o ↦ absurd (none o.0 o.1) | inr o ↦ o.3 ∙ ap (due_of_verdict nothing bytes) (one o.0 v o.2 is) ∙ sym same ];
+  unpaged_due one v d none is refused same = record {
+    due = subst (IsDue Page bytes) (sym same) (unpaged none is refused);
+    only = λ e h. elim (page_due e h) [ inl o ↦ absurd (none o.0 o.1) | inr o ↦ o.4 ∙ ap (due_of_build bytes) (one o.0 v o.2 is) ∙ sym same ];
     built = λ wanted build is_done. let e : Page ≡ Build wanted = build in cc;
     ran = λ wanted source n runs h. absurd (no_page_run wanted bytes source n runs);
   }
 
   pub pages_none : OneVerdict false bytes → (r : Refusal) (d : Due) → IsUnpaged bytes r → IsToldOf bytes r d → IsResponse Page bytes d
-  pages_none one (Diagnostic code at) d h line = unpaged_due one (Diagnosed code at) d h.1 h.0 line
-  pages_none one (Limit code at size) d h line = unpaged_due one (Limited code at size) d h.1 h.0 line
+  pages_none one (Diagnostic code at) d h line = unpaged_due one (Diagnosed code at) d h.1 h.0 tt line
+  pages_none one (Limit code at size) d h line = unpaged_due one (Limited code at size) d h.1 h.0 tt line
   pages_none one NoMemory d h line = absurd line
+
+  pub accepted_paged : OneVerdict false bytes → (p : Program) (d : Due) → IsVerdict false bytes (Accepted p) → IsDue Page bytes d → (text : List ℕ) × IsPage bytes text × (d ≡ done text)
+  unfolding IsPagedDue IsUnpagedDue
+  accepted_paged one p d is due = elim (page_due d due) [ inl o ↦ o | inr o ↦ absurd (subst Refuses (one o.0 (Accepted p) o.2 is) o.3) ]
 
 -- ---- what the outputs got
 
@@ -444,9 +449,9 @@ outcome _ bytes _ (drilled {seed = seed} {functions = functions} {v = v} is) =
     let text = drill_text seed functions in
     verdict_outcome (running (drill_lines text) drill_steps) text v (running_outcome (drill_lines text) drill_steps)
 outcome _ bytes _ (shown is) = tt
-outcome _ bytes _ (unshown {v = v} none is) = verdict_outcome (λ p. done []) bytes v (λ p. tt)
+outcome _ bytes _ (unshown {v = v} none is refused) = verdict_outcome written bytes v (λ p. tt)
 outcome _ bytes _ (paged is) = tt
-outcome _ bytes _ (unpaged {v = v} none is) = verdict_outcome (λ p. done []) bytes v (λ p. tt)
+outcome _ bytes _ (unpaged {v = v} none is refused) = verdict_outcome written bytes v (λ p. tt)
 outcome _ bytes _ (batched is answers) = tt
 outcome _ bytes _ (bad_batch is) = tt
 outcome _ bytes _ (emulated {steps = steps}) = machine_outcome [] (machine bytes steps)

@@ -61,6 +61,16 @@ due_of_verdict f text (Diagnosed code place) = noted Refused (codes "error " ++ 
 due_of_verdict f text (Limited code place bytes) = noted Limit (codes "limit " ++ at_place text code place)
 due_of_verdict f text (Accepted p) = f p
 
+-- what `build` says of a source: the image of its program, or why there is none
+abbrev pub due_of_build : List ℕ → Verdict → Due
+due_of_build text v = due_of_verdict (λ p. done (image p)) text v
+
+-- the verdict refuses the source
+abbrev pub Refuses : Verdict → Type 0
+Refuses (Diagnosed code place) = Unit {0}
+Refuses (Limited code place bytes) = Unit {0}
+Refuses (Accepted p) = ⊥
+
 -- ---- the machine's lines
 
 -- a number that was printed, as a signed number
@@ -162,16 +172,16 @@ pub data AreAnswers : List (List ℕ) → List Answered → Type 0 where
 
 -- What is due for a command and the bytes that it read. Workers, chunks and gate have no part in it.
 pub data IsDue : Command → List ℕ → Due → Type 0 where
-  built : {fold : Bool} {bytes : List ℕ} {v : Verdict} → IsVerdict fold bytes v → IsDue (Build fold) bytes (due_of_verdict (λ p. done (image p)) bytes v)
+  built : {fold : Bool} {bytes : List ℕ} {v : Verdict} → IsVerdict fold bytes v → IsDue (Build fold) bytes (due_of_build bytes v)
   ran : {steps : ℕ} {fold : Bool} {bytes : List ℕ} {v : Verdict} → IsVerdict fold bytes v →
       IsDue (Run steps fold) bytes (due_of_verdict (λ p. due_of_machine [] (machine (image p) steps)) bytes v)
-  -- the tables of a pass, or what `build` says of a source that doesn't reach it
+  -- the tables of a pass; a source that doesn't reach it is refused, and then what `build` says of it
   shown : {pass : Pass} {bytes text : List ℕ} → Shows bytes pass text → IsDue (Show pass) bytes (done text)
-  unshown : {pass : Pass} {bytes : List ℕ} {v : Verdict} → ((text : List ℕ) → ¬ Shows bytes pass text) → IsVerdict false bytes v →
-      IsDue (Show pass) bytes (due_of_verdict (λ p. done []) bytes v)
-  -- the page of a source, or what `build` says of a source that has none
+  unshown : {pass : Pass} {bytes : List ℕ} {v : Verdict} → ((text : List ℕ) → ¬ Shows bytes pass text) → IsVerdict false bytes v → Refuses v →
+      IsDue (Show pass) bytes (due_of_build bytes v)
+  -- the page of a source; one that has none is refused, and then what `build` says of it
   paged : {bytes text : List ℕ} → IsPage bytes text → IsDue Page bytes (done text)
-  unpaged : {bytes : List ℕ} {v : Verdict} → ((text : List ℕ) → ¬ IsPage bytes text) → IsVerdict false bytes v → IsDue Page bytes (due_of_verdict (λ p. done []) bytes v)
+  unpaged : {bytes : List ℕ} {v : Verdict} → ((text : List ℕ) → ¬ IsPage bytes text) → IsVerdict false bytes v → Refuses v → IsDue Page bytes (due_of_build bytes v)
   -- the answers to all sources of a batch, or the fault of bytes that are no batch
   batched : {bytes : List ℕ} {sources : List (List ℕ)} {answers : List Answered} → IsBatch bytes sources → AreAnswers sources answers →
       IsDue Batch bytes (done (all_bytes answers))

@@ -26,7 +26,7 @@ pub use batch::{Answers, deal};
 pub use compiler::{compile, compile_by};
 pub use ends::{ByteIn, ByteOut, Failed};
 pub use front_end::{Analysis, Refusal, front, language_tables};
-pub use laws::images_are_listed_and_assembled;
+pub use laws::{accepted_sources_are_shown, images_are_listed_and_assembled};
 pub use memory::{MemoryIn, MemoryOut};
 pub use program::pareas;
 pub use status::Status;
