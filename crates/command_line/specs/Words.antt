@@ -147,7 +147,7 @@ pass_named word =
     else if bytes_eq word (codes "all") then Some All
     else None
 
--- what is to be shown: the page where it is asked for and no word for a pass is given, and else the pass that a word names
+-- what is to be shown: the page, or the pass that a word names; nothing where both are asked for, or neither
 abbrev pub view_of : Bool → Option Text → Option Command
 view_of true None = Some Page
 view_of true (Some word) = None
@@ -167,7 +167,7 @@ abbrev pub shared_out : Command → List Row → Asked
 shared_out command rows =
     record { command = command; workers = number_at (codes "workers") rows; chunk = number_at (codes "chunk") rows }
 
--- what a subcommand asks for with its options, unless it is to show neither the page nor a pass; `emu`, `dump`, `asm`, `table` and `explain` have no options for sharing
+-- what a subcommand asks for with its options, unless it is to show neither the page nor a pass, or both; `emu`, `dump`, `asm`, `table` and `explain` have no options for sharing
 abbrev pub asked_by : Text → List Row → Option Asked
 asked_by name rows =
     if bytes_eq name (codes "build") then Some (shared_out (Build (flag_at (codes "fold") rows)) rows)
@@ -190,7 +190,7 @@ unknown_code command = None
 abbrev pub known : Asked → Option Asked
 known a = if is_some (unknown_code a.command) then None else Some a
 
--- what words ask for, of which the first is the program's name; none exactly where clap finds a fault in them, a code isn't known, or nothing is to be shown
+-- what words ask for, of which the first is the program's name; none exactly where clap finds a fault in them, a code isn't known, or neither the page nor a pass is to be shown, or both
 abbrev pub asked : List Text → Option Asked
 asked words = if is_empty (fault_of app words) then option_and_then (λ s. option_and_then known (asked_by s.0 s.1)) (subcommand_of app words) else None
 
@@ -200,7 +200,7 @@ pub record IsNoCode (words : List Text) : Type 0 where
   pub explains : subcommand_of app words ≡ Some (codes "explain", options)
   pub is_none : explanation_of (number_at (codes "code") options) ≡ None
 
--- or to show what is neither the page nor a pass
+-- or to show neither the page nor a pass, or both
 pub record IsNoView (words : List Text) : Type 0 where
   pub options : List Row
   pub shows : subcommand_of app words ≡ Some (codes "show", options)

@@ -77,7 +77,7 @@ pub enum Command {
         /// How many functions the text has beside `main`, at least one.
         functions: u32,
     },
-    /// Tells what a diagnostic means, a source that has it, and how it is mended. It reads no input.
+    /// Tells what a diagnostic means, a source that has it, and how to fix it. It reads no input.
     Explain {
         /// The code of the diagnostic or of the limit.
         code: u32,

@@ -6,7 +6,7 @@ ghost use Rattle.command_line.specs.declared.command.Pass.TheVariants.{States, P
 ghost use Rattle.command_line.specs.Words.{Asked, IsNoCode, IsNoView, app, asked, known};
 ghost use Rattle.diagnostic_texts.specs.Explained.{explanation_of};
 
-/// Words in which `clap` finds no fault ask for nothing exactly where they are to explain a code that no diagnostic has, or to show neither the page nor a pass.
+/// Words in which `clap` finds no fault ask for nothing exactly where they are to explain a code that no diagnostic has, or to show neither the page nor a pass, or both.
 pub fn taken_words_ask()
     ensures asks { (words : List (List ℕ)) → fault_of app words ≡ [] → ((a : Asked) × (asked words ≡ Some a)) ⊎ (IsNoCode words ⊎ IsNoView words) }
     ensures no_code { (words : List (List ℕ)) → IsNoCode words → asked words ≡ None }

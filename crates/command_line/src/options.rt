@@ -157,7 +157,7 @@ fn functions<'a>(alloc: Global) -> Arg<'a>
     let described = Described {
         name: "functions",
         letter: "K",
-        help: "Functions of the text beside main, 1 to 4096",
+        help: "Functions of the program besides main, 1 to 4096",
     };
     required_option(alloc, described, numbers)
 }
@@ -170,7 +170,7 @@ fn word<'a>(alloc: Global) -> Arg<'a>
     let described = Described {
         name: "word",
         letter: "W",
-        help: "Parse this word: names separated by spaces",
+        help: "Parse this word: names separated by spaces or tabs",
     };
     value_option(alloc, described, value_parser!(String))
 }
@@ -301,7 +301,7 @@ fn batch<'a>(alloc: Global) -> Result<Box<Command<'a>>, AllocError>
     let command = named(
         alloc,
         "batch",
-        "Compiles many programs: sources on standard input, each behind its length, an ELF file or a diagnostic for each on standard output",
+        "Compiles many programs: sources on standard input, each after its length, an ELF file or a diagnostic for each on standard output",
     )?;
     let command = with_option(alloc, command, workers(alloc))?;
     with_option(alloc, command, chunk(alloc))
@@ -376,7 +376,7 @@ fn explain<'a>(alloc: Global) -> Result<Box<Command<'a>>, AllocError>
     let command = named(
         alloc,
         "explain",
-        "Explains a diagnostic, as in `pareas explain 504`: prints what it means, a source that has it and how it is mended, reads no input",
+        "Explains a diagnostic, as in `pareas explain 504`: prints what it means, a source that has it and how to fix it, reads no input",
     )?;
     with_option(alloc, command, code(alloc))
 }

@@ -17,11 +17,11 @@ use clap::{ArgMatches, Error};
 use diagnostic_texts::explanation_of;
 use std::alloc::{AllocError, Global};
 
-// The text that tells that nothing is to be shown, as `clap` spells it.
+// The text that says that nothing is to be shown, as `clap` words it.
 const NO_VIEW: &str =
     "error: the following required arguments were not provided:\n  --pass <PASS>\n\nUsage: pareas show --pass <PASS>\n\nFor more information, try '--help'.\n";
 
-// The text that tells that two things are to be shown, as `clap` spells it.
+// The text that says that two things are to be shown, as `clap` words it.
 const TWO_VIEWS: &str =
     "error: the argument '--html' cannot be used with '--pass <PASS>'\n\nUsage: pareas show --html\n\nFor more information, try '--help'.\n";
 

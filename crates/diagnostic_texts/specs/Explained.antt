@@ -5,7 +5,7 @@ use Rattle.std.specs.Borrow.{Bor}
 use Rattle.diagnostic_texts.specs.declared.texts.TheConstants.{TEXTS}
 
 -- what there is to say of a code: what it means, where its place is, a source that has it with the line and the column of its place there, or
--- what such a source has, and how it is mended
+-- what such a source has, and how to fix it
 pub record Explained : Type 0 where
   pub code : ℕ
   pub meaning : List ℕ

@@ -19,7 +19,7 @@ pub struct Explanation {
     pub example: &'static str,
     /// The line and the column of the place in the example. `None` where the example is no source, since a source that has it is too long to be shown.
     pub at: Option<(u32, u32)>,
-    /// How it is mended: whole lines.
+    /// How to fix it: whole lines.
     pub mended: &'static str,
 }
 

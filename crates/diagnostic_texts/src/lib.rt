@@ -1,4 +1,4 @@
-//! What `explain` says of each diagnostic and of each limit: what it means, where its place is, a source that has it, and how it is mended.
+//! What `explain` says of each diagnostic and of each limit: what it means, where its place is, a source that has it, and how to fix it.
 #![tactic(auto)]
 
 mod explanation;

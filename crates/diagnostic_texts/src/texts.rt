@@ -1,7 +1,7 @@
 // The texts.
 
 /// A code; what it means; where its place is; a source that has it, or what such a source has; the line and the column of the place in that source; and how
-/// it is mended. The last text and the example are whole lines. It is a tuple, since the definitions of `specs/` read constants of plain types alone.
+/// to fix it. The last text and the example are whole lines. It is a tuple, since the definitions of `specs/` read constants of plain types alone.
 pub(crate) type Row = (
     u32,
     &'static str,
@@ -62,7 +62,7 @@ keyword where a name is wanted. A call has square brackets: f[1].
     ),
     (
         301,
-        "an `else` or `else if` that no `if` or `else if` stands right before",
+        "an `else` or `else if` with no `if` or `else if` right before it",
         "`else`",
         "\
 fn main(): int {
@@ -74,7 +74,7 @@ fn main(): int {
 ",
         Some((4, 5)),
         "\
-Put it right behind the block of the if, in the same block. A while has no else,
+Put it right after the block of the if, in the same block. A while has no else,
 and no else follows the else that ends a chain.
 ",
     ),
@@ -235,7 +235,7 @@ Give the call one argument for each parameter: area[3, 4].
     (
         503,
         "an argument of another type than its parameter",
-        "the argument",
+        "the argument (its operator, if it has one)",
         "\
 fn twice(var n: int): int { return 2 * n; }
 fn main(): int { return twice[true]; }
@@ -311,7 +311,7 @@ if 1 < 2 { print 1; } else { print 0; }.
     (
         601,
         "more than 16,777,216 bytes",
-        "the byte behind them",
+        "the byte after them",
         "\
 A source of 16,777,217 bytes has it, whatever they are: comments and white
 space count, too.

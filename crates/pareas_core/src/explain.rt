@@ -9,7 +9,7 @@ use crate::response::Response;
 use diagnostic_texts::explanation_text;
 use std::alloc::{AllocError, Global};
 
-/// What the diagnostic of the code means, a source that has it, and how it is mended.
+/// What the diagnostic of the code means, a source that has it, and how to fix it.
 pub(crate) fn explain(alloc: Global, code: u32) -> Result<Response, AllocError>
     ensures { (bytes : List ℕ) → IfOk result (λ response. IsResponse (Explain code) bytes response) }
 {

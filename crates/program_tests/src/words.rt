@@ -273,13 +273,13 @@ Usage: pareas <COMMAND>
 Commands:
   build    Compiles a program: source on standard input, ELF file for RV32IM on standard output
   run      Compiles a program from standard input and runs it on the emulator: prints its output and how it ends
-  batch    Compiles many programs: sources on standard input, each behind its length, an ELF file or a diagnostic for each on standard output
+  batch    Compiles many programs: sources on standard input, each after its length, an ELF file or a diagnostic for each on standard output
   emu      Runs an ELF file for RV32IM from standard input on the emulator: prints its output and how it ends
   dump     Lists the code of an ELF file for RV32IM from standard input: prints a line for each word
   asm      Assembles a listing as `dump` prints it: lines on standard input, ELF file for RV32IM on standard output
   table    Makes the LLP tables of a grammar from standard input: prints their sizes and the parse of a word, or a conflict
   drill    Compiles and runs a program made from a seed, as in `pareas drill --seed 1 --functions 2`: prints sizes and how it ends, reads no input
-  explain  Explains a diagnostic, as in `pareas explain 504`: prints what it means, a source that has it and how it is mended, reads no input
+  explain  Explains a diagnostic, as in `pareas explain 504`: prints what it means, a source that has it and how to fix it, reads no input
   show     Shows what a pass makes of a program from standard input, as in `pareas show --pass rows`: prints its arrays as tables
   help     Print this message or the help of the given subcommand(s)
 
@@ -314,7 +314,7 @@ Options:
 ";
 
 const BATCH_HELP: &str = "\
-Compiles many programs: sources on standard input, each behind its length, an ELF file or a diagnostic for each on standard output
+Compiles many programs: sources on standard input, each after its length, an ELF file or a diagnostic for each on standard output
 
 Usage: pareas batch [OPTIONS]
 
@@ -358,7 +358,7 @@ Makes the LLP tables of a grammar from standard input: prints their sizes and th
 Usage: pareas table [OPTIONS]
 
 Options:
-      --word <W>  Parse this word: names separated by spaces
+      --word <W>  Parse this word: names separated by spaces or tabs
       --entries   List the entries of the tables, a line each
   -h, --help      Print help
 ";
@@ -370,14 +370,14 @@ Usage: pareas drill [OPTIONS] --seed <S> --functions <K>
 
 Options:
       --seed <S>       What the numbers of the text are drawn from, 0 to 4294967295
-      --functions <K>  Functions of the text beside main, 1 to 4096
+      --functions <K>  Functions of the program besides main, 1 to 4096
       --workers <N>    Threads that share the work, 1 to 64 [default: 4]
       --chunk <C>      Items that a thread draws at a time, 1 to 65536 [default: 1024]
   -h, --help           Print help
 ";
 
 const EXPLAIN_HELP: &str = "\
-Explains a diagnostic, as in `pareas explain 504`: prints what it means, a source that has it and how it is mended, reads no input
+Explains a diagnostic, as in `pareas explain 504`: prints what it means, a source that has it and how to fix it, reads no input
 
 Usage: pareas explain <CODE>
 
