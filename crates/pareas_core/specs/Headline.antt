@@ -30,7 +30,7 @@ pub record CompilesTo (fold : Bool) (source file : List ℕ) : Type 0 where
 -- ---- the program
 
 -- a program's run by its image: the image behaves as the program on RV32IM, and a fault within the steps is the store
--- of a stack that the program overruns
+-- with which the program overruns its stack
 pub record RunsAs (fold : Bool) (source : List ℕ) (steps : ℕ) (status : Status) : Type 0 where
   pub program : Program
   pub accepted : IsVerdict fold source (Accepted program)
@@ -119,7 +119,7 @@ pub record IsAnswer (c : Command) (bytes : List ℕ) (status : Status) (input ou
   -- each image of a batch is that of the program that its source is, and behaves as that program on RV32IM
   pub built_each : c ≡ Batch → (sources : List (List ℕ)) (answers : List Answered) → IsBatch (read_by c bytes) sources → AreAnswers sources answers →
       (k : ℕ) (text : List ℕ) (a : Answered) → slice_get sources k ≡ Some text → slice_get answers k ≡ Some a → a.kind ≡ kinds.Image → CompilesTo false text a.bytes
-  -- what was run is the image of the program that the source is, or the text of a drill
+  -- what was run is the image of the program that the source is; the source of a drill is its text
   pub ran : (fold : Bool) (source : List ℕ) (steps : ℕ) → Runs c (read_by c bytes) fold source steps → HasRun status → RunsAs fold source steps status
 
 -- The answer to words that name a command, and the status of words that name none. Each status has its cause.
