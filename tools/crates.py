@@ -1,5 +1,9 @@
-"""The repository's crates, by its crates.txt."""
+"""The repository's crates, by its crates.txt.
+
+    python3 tools/crates.py NAME..      prints the lines of these crates and of all crates that they depend on; a crate of the kit has none
+"""
 import os
+import sys
 
 TOP = os.path.dirname(os.path.dirname(os.path.abspath(__file__)))
 
@@ -21,3 +25,13 @@ def libraries_of(name):
             libraries[name] = [it for it in lines[name].partition(":")[2].split() if it in lines]
             left += libraries[name]
     return libraries
+
+
+def main():
+    lines = lines_of_crates()
+    for name in sorted({it for asked in sys.argv[1:] if asked in lines for it in libraries_of(asked)}):
+        print(lines[name])
+
+
+if __name__ == "__main__":
+    main()
