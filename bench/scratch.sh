@@ -1,7 +1,7 @@
 # shellcheck shell=bash
 # What the scripts beside it share that time a scratch program; they read it with `source`. It sets
 #
-#     rounds      how many turns are timed: the script's argument, or five
+#     rounds      how many turns are timed: the script's argument, or five (a program that takes its turns itself ignores it)
 #     top         this repository
 #     scratch     a temporary folder, which is removed when the script ends: a repository with the crate `timed`, whose sources the script writes
 #     timed       that crate's folder
