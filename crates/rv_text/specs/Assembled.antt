@@ -13,7 +13,7 @@ with_line n (Spells w) (Ok more) = Ok (w ∷ more)
 with_line n (Spells w) (Err fault) = Err fault
 with_line n Wrong more = Err (LineOf n)
 
--- the words of the lines from the n-th on, or the first line that is neither blank nor an instruction
+-- the words that the lines from the n-th on spell, or the first line that is neither blank nor spells a word
 abbrev pub words_from : ℕ → List (List ℕ) → Result (List ℕ) AsmFault
 words_from n [] = Ok []
 words_from n (line ∷ more) = with_line n (line_read line) (words_from (n + 1) more)
@@ -37,7 +37,7 @@ words_said (Blank ∷ more) = words_said more
 words_said (Spells w ∷ more) = w ∷ words_said more
 words_said (Wrong ∷ more) = words_said more
 
--- each of the first k lines is blank or an instruction
+-- each of the first k lines is blank or spells a word
 abbrev pub AreRight : List Line → ℕ → Type 0
 AreRight ls k = (j : ℕ) → j < k → slice_get ls j ≡ Some Wrong → ⊥
 

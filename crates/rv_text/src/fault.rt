@@ -9,11 +9,11 @@ use std::fmt;
 pub enum AsmFault {
     /// The text has more than 134,217,728 bytes.
     TooLarge,
-    /// The line with this number, from 1 on, is neither blank nor an instruction.
+    /// The line with this number, from 1 on, is neither blank nor an instruction nor a `.word`.
     Line(u32),
-    /// No line is an instruction.
+    /// All lines are blank.
     Empty,
-    /// There are more than 4,194,304 instructions.
+    /// There are more than 4,194,304 words.
     TooMany,
     /// Memory ran out.
     NoMemory,
