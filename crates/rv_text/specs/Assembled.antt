@@ -13,7 +13,7 @@ with_line n (Spells w) (Ok more) = Ok (w ∷ more)
 with_line n (Spells w) (Err fault) = Err fault
 with_line n Wrong more = Err (LineOf n)
 
--- the words that the lines from the n-th on spell, or the first line that is neither blank nor spells a word
+-- the words that the lines from the n-th on spell, or the first line that neither is blank nor spells a word
 abbrev pub words_from : ℕ → List (List ℕ) → Result (List ℕ) AsmFault
 words_from n [] = Ok []
 words_from n (line ∷ more) = with_line n (line_read line) (words_from (n + 1) more)

@@ -19,7 +19,7 @@ const MOST_WORDS: usize = 4_194_304;
 /// No line that spells a word has fewer bytes, with its line feed.
 const SHORTEST_LINE: usize = 6;
 
-/// The words that the lines spell, or the first line that is neither blank nor spells a word.
+/// The words that the lines spell, or the first line that neither is blank nor spells a word.
 fn words(alloc: Global, text: &[u8]) -> Result<Vec<u32>, AsmFault>
     requires { length text.now ≤ 134217728 }
     ensures ok { IfOk result (λ v. words_from 1 (lines text.now) ≡ Ok v.items) }
